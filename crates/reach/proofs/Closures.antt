@@ -1,0 +1,71 @@
+-- The closure table: the rows of the objects from n up are ready, each with all that is under its object. A store makes one row more
+-- ready; at 0 all are.
+use mathlib.Core.Path.{_≡_, refl, sym, _∙_, subst}
+use mathlib.Core.List.{List}
+use mathlib.Core.Logic.{_⊎_, inl, inr, ⊎-elim}
+use Prim.Native.Nat.{ℕ, _+_, _*_, _%_, _^_, _≤_, _<_}
+use native.Mathlib.Decide.{ℕ-discrete}
+use native.Mathlib.Omega.{arith}
+use lib.Bits.{bitAnd, bitOr}
+use lib.Count.{trailingZeros}
+use lib.Dec.{lit<}
+use lib.ListN.{length, getD, set, length-set}
+use lib.Seq.{getD-set-same, getD-set-other}
+use Rattle.reach.specs.declared.Policy.{Policy}
+use Rattle.reach.specs.Words.{bit, SetOf, TableOf}
+use Rattle.reach.specs.Tables.{view}
+use Rattle.reach.specs.Reach.{Under}
+use Rattle.reach.specs.Surveys.{ClosureOf}
+use Rattle.reach.proofs.Bits.{bit-none}
+use Rattle.reach.proofs.WordSets.{set-at, set-bits, set-or, set-one, set-mask, set-lowest}
+
+-- The rows of the set `ready` are right, and it has every number from n up.
+pub record Ready (p : Policy) (n ready : ℕ) (rows : List ℕ) : Type 0 where
+  pub long : length rows ≡ 64
+  pub word : ready < 2 ^ 64
+  pub row : (h : ℕ) → bit ready h ≡ 1 → SetOf (getD rows h 0) (λ x. Under (view p) x h)
+  pub from : (h : ℕ) → n ≤ h → h < 64 → bit ready h ≡ 1
+
+module _ {p : Policy} where
+  pub ready-none : {rows : List ℕ} → length rows ≡ 64 → Ready p 64 0 rows
+  ready-none e =
+      record {
+        long = e;
+        word = lit< tt;
+        row = λ h b. absurd (bit-none h b);
+        from = λ h a b. absurd (omega (arith, a, b));
+      }
+
+  pub ready-more : {n m ready v : ℕ} {rows : List ℕ} → Ready p n ready rows → m < 64 → n ≤ m + 1 → SetOf v (λ x. Under (view p) x m)
+      → Ready p m (bitOr ready ((1 * 2 ^ m) % 2 ^ 64)) (set rows m v)
+  ready-more {n} {m} {ready} {v} {rows} r l e u =
+      record {
+        long = length-set rows m v ∙ r .long;
+        word = more .word;
+        row = λ h b. at h (more .only h b) (ℕ-discrete h m);
+        from = λ h a b. more .all h (place h a b (ℕ-discrete h m));
+      }
+    where
+      more : SetOf (bitOr ready ((1 * 2 ^ m) % 2 ^ 64)) (λ h. (bit ready h ≡ 1) ⊎ (h ≡ m))
+      more = set-or (set-bits ready (r .word)) (set-one m l)
+
+      at : (h : ℕ) → (bit ready h ≡ 1) ⊎ (h ≡ m) → Dec (h ≡ m) → SetOf (getD (set rows m v) h 0) (λ x. Under (view p) x h)
+      at h w (yes q) =
+          subst
+          (λ (j : ℕ). SetOf (getD (set rows m v) j 0) (λ x. Under (view p) x j))
+          (sym q)
+          (set-at (getD-set-same rows m v 0 (omega (arith, r .long, l))) u)
+      at h w (no q) = set-at (getD-set-other rows m h v 0 q) (r .row h (⊎-elim (λ b. b) (λ b. absurd (q b)) w))
+
+      place : (h : ℕ) → m ≤ h → h < 64 → Dec (h ≡ m) → (bit ready h ≡ 1) ⊎ (h ≡ m)
+      place h a b (yes q) = inr q
+      place h a b (no q) = inl (r .from h (omega (arith, a, e, q)) b)
+
+  pub ready-all : {n ready : ℕ} {rows : List ℕ} → Ready p n ready rows → n ≡ 0 → ClosureOf p rows
+  ready-all r e = record { long = r .long; row = λ i h. r .row i (r .from i (omega (arith, e)) h) }
+
+-- The lowest of todo that is ready.
+pub near-lowest : (todo : ℕ) {ready : ℕ} → ready < 2 ^ 64 → (bitAnd todo ready ≡ 0 → ⊥)
+    → (trailingZeros 64 (bitAnd todo ready) < 64)
+    × ((bit todo (trailingZeros 64 (bitAnd todo ready)) ≡ 1) × (bit ready (trailingZeros 64 (bitAnd todo ready)) ≡ 1))
+near-lowest todo {ready} w n = set-lowest (set-mask todo (set-bits ready w)) n

@@ -1,0 +1,150 @@
+-- The tests of the privileges decide them, for every policy. Each law has the shape of its definition.
+use mathlib.Core.Path.{_≡_, refl, sym, subst}
+use mathlib.Core.Bool.{Bool, true, false, not, _&&_}
+use Prim.Native.Nat.{ℕ, _-_, _^_, _<_}
+use native.Mathlib.Omega.{arith}
+use lib.Bits.{bitAnd}
+use lib.Dec.{eqb, ltb}
+use Rattle.reach.specs.declared.Policy.{Policy}
+use Rattle.reach.specs.declared.Place.the-variants.{At, Nothing}
+use Rattle.reach.specs.Words.{bit, has, SetOf}
+use Rattle.reach.specs.Tests.{some, Some, Decides}
+use Rattle.reach.specs.Tables.{sort, appointment, rule, view}
+use Rattle.reach.specs.Reach.{InUse, User, Target, inUse, isUser, isTarget, under}
+use Rattle.reach.specs.Privileges.{HoldsBy, Holds, Owns, AdministersBy, Administers, PermitsBy, Permitted, Orphan, owner, administrator, holdsBy, holds, owns, administersBy, administers, permitsBy, askable, permitted, permitting, orphaned}
+use Rattle.reach.proofs.Testing.{decides-as, decides-same, decides-and, decides-not, decides-some, decides-eqb, decides-ltb, decides-true, some-map, lowest-none, lowest-found}
+use Rattle.reach.proofs.WordSets.{set-mask, set-not, decides-nonempty}
+use Rattle.reach.proofs.Chains.{in-use-below, decides-in-use, under-decides}
+
+-- What decides a user and an object: the sort that counts.
+pub decides-user : (p : Policy) (u : ℕ) → Decides (isUser p u) (User (view p) u)
+decides-user p u = decides-eqb (sort p u) 2
+
+pub user-below : (p : Policy) (u : ℕ) → User (view p) u → u < 64
+user-below p u e = in-use-below p u (omega (arith, e))
+
+pub decides-holds-by : (p : Policy) (kind u x i : ℕ) → Decides (holdsBy p kind u x i) (HoldsBy (view p) kind u x i)
+unfolding holdsBy
+decides-holds-by p kind u x i =
+    decides-as
+    (decides-and _ _ (decides-and _ _ (decides-eqb _ kind) (decides-eqb _ u)) (under-decides p x (appointment p i .a)))
+    (λ w. record { is-kind = w .0 .0; is-holder = w .0 .1; covers = w .1 })
+    (λ h. ((h .is-kind, h .is-holder), h .covers))
+
+-- `owns-decides` and `manages-decides` are this law at owner and manager.
+pub holds-decides : (p : Policy) (kind u x : ℕ) → Decides (holds p kind u x) (Holds (view p) kind u x)
+unfolding holds
+holds-decides p kind u x =
+    decides-as
+    (decides-and _ _ (decides-user p u) (decides-some 32 _ _ (λ i l. decides-holds-by p kind u x i)))
+    (λ w. record { user = w .0; by = w .1 })
+    (λ h. (h .user, h .by))
+
+pub decides-administers-by : (p : Policy) (u a b i : ℕ) → Decides (administersBy p u a b i) (AdministersBy (view p) u a b i)
+unfolding administersBy
+decides-administers-by p u a b i =
+    decides-as
+    (decides-and _ _
+    (decides-and _ _ (decides-and _ _ (decides-eqb _ administrator) (decides-eqb _ u)) (under-decides p a (appointment p i .a)))
+    (under-decides p b (appointment p i .b)))
+    (λ w. record { is-kind = w .0 .0 .0; is-holder = w .0 .0 .1; covers-a = w .0 .1; covers-b = w .1 })
+    (λ h. (((h .is-kind, h .is-holder), h .covers-a), h .covers-b))
+
+pub administers-decides : (p : Policy) (u a b : ℕ) → Decides (administers p u a b) (Administers (view p) u a b)
+unfolding administers
+administers-decides p u a b =
+    decides-as
+    (decides-and _ _ (decides-user p u) (decides-some 32 _ _ (λ i l. decides-administers-by p u a b i)))
+    (λ w. record { user = w .0; by = w .1 })
+    (λ h. (h .user, h .by))
+
+pub decides-permits-by : (p : Policy) (u k x i : ℕ) → Decides (permitsBy p u k x i) (PermitsBy (view p) u k x i)
+unfolding permitsBy has
+decides-permits-by p u k x i =
+    decides-as
+    (decides-and _ _
+    (decides-and _ _ (decides-and _ _ (decides-true (rule p i .used)) (decides-eqb (bit (rule p i .operations) k) 1)) (under-decides p u (rule p i .users)))
+    (under-decides p x (rule p i .targets)))
+    (λ w. record { used = w .0 .0 .0; operation = w .0 .0 .1; covers-user = w .0 .1; covers-target = w .1 })
+    (λ h. (((h .used, h .operation), h .covers-user), h .covers-target))
+
+pub decides-askable : (p : Policy) (u k x : ℕ) → Decides (askable p u k x) ((User (view p) u × Target (view p) x) × (k < 8))
+unfolding askable
+decides-askable p u k x = decides-and _ _ (decides-and _ _ (decides-user p u) (decides-eqb (sort p x) 3)) (decides-ltb k 8)
+
+pub permitted-decides : (p : Policy) (u k x : ℕ) → Decides (permitted p u k x) (Permitted (view p) u k x)
+unfolding permitted
+permitted-decides p u k x =
+    decides-as
+    (decides-and _ _ (decides-askable p u k x) (decides-some 64 _ _ (λ i l. decides-permits-by p u k x i)))
+    (λ w. record { user = w .0 .0 .0; target = w .0 .0 .1; number = w .0 .1; by = w .1 })
+    (λ h. (((h .user, h .target), h .number), h .by))
+
+-- Some object in use has no owner.
+pub orphaned-decides : (p : Policy) → Decides (orphaned p) (Some 64 (Orphan (view p)))
+unfolding orphaned
+orphaned-decides p =
+    decides-as
+    (decides-some 64 _ _
+    (λ x l. decides-and _ _ (decides-in-use p x) (decides-not _ (decides-some 64 _ _ (λ u m. holds-decides p 1 u x)))))
+    (λ w.
+    record {
+      place = w .place;
+      low = w .low;
+      at = record { object = w .at .0; nobody = λ u o. w .at .1 (record { place = u; low = user-below p u (o .user); at = o }) };
+    })
+    (λ w. record { place = w .place; low = w .low; at = (w .at .object, λ s. w .at .nobody (s .place) (s .at)) })
+
+-- ---- Two answers of the code, from what it has found out
+
+-- A user who owns x does so by the place of some appointment that he holds.
+pub orphan-decides : (p : Policy) {objects owned : ℕ} → SetOf objects (InUse (view p))
+    → SetOf owned (λ x. Some 32 (λ i. User (view p) (appointment p i .holder) × HoldsBy (view p) owner (appointment p i .holder) x i))
+    → not (eqb (bitAnd objects (2 ^ 64 - 1 - owned)) 0) ≡ orphaned p
+orphan-decides p {objects} {owned} o w =
+    decides-same
+    _
+    _
+    (decides-as
+    (decides-nonempty (set-mask objects (set-not w)))
+    (some-map
+    (λ x f.
+    record {
+      object = o .only x (f .0);
+      nobody = λ u h.
+          f .1 .1
+          (some-map
+          (λ i b. (
+            subst (User (view p)) (sym (b .is-holder)) (h .user),
+            record { is-kind = b .is-kind; is-holder = refl; covers = b .covers },
+          ))
+          (h .by));
+    }))
+    (some-map
+    (λ x f. (
+      o .all x (f .object),
+      (
+        in-use-below p x (f .object),
+        λ s. f .nobody (appointment p (s .place) .holder) (record { user = s .at .0; by = record { place = s .place; low = s .low; at = s .at .1 } }),
+      ),
+    ))))
+    (orphaned-decides p)
+
+module _ (p : Policy) (u k x : ℕ) where
+  -- Tests of the user and the target that decide what the rules' own tests do.
+  pub askable-is : (a b : Bool) → Decides a (User (view p) u) → Decides b (Target (view p) x) → (a && b && ltb k 8) ≡ askable p u k x
+  unfolding askable
+  askable-is a b d e = rw (decides-same a (isUser p u) d (decides-user p u), decides-same b (isTarget p x) e (decides-eqb (sort p x) 3))
+
+  pub permitting-not : askable p u k x ≡ false → Nothing ≡ permitting p u k x
+  unfolding permitting
+  permitting-not e = rw e
+
+  pub permitting-none : askable p u k x ≡ true → some 64 (permitsBy p u k x) ≡ false → Nothing ≡ permitting p u k x
+  unfolding permitting
+  permitting-none e f = rw e (sym (lowest-none 64 (permitsBy p u k x) f))
+
+  pub permitting-at : (i : ℕ) → askable p u k x ≡ true → i < 64 → some i (permitsBy p u k x) ≡ false → permitsBy p u k x i ≡ true
+      → At i ≡ permitting p u k x
+  unfolding permitting
+  permitting-at i e l f g = rw e (sym (lowest-found 64 (permitsBy p u k x) i l f g))

@@ -1,0 +1,75 @@
+-- The set is a union over the rules, each with its own contract, and of that the targets; who is no user is permitted nothing.
+use native.Mathlib.Omega.{arith}
+use Prim.Native.Nat.{ℕ, _-_, _≤_, _<_}
+use Rattle.reach.specs.Tables.{view}
+use Rattle.reach.specs.Privileges.{PermitsBy}
+use Rattle.reach.proofs.WordSets.{set-as, set-none, set-mask, set-outside, set-inside}
+use Rattle.reach.proofs.Unions.{Union, union-none, union-add, union-end}
+use borrow.Author.Needs.{needs}
+use Rattle.reach.proofs.Policy.permitted.Statement.{statement}
+use Rattle.reach.proofs.Policy.permitted.Tie as tie
+
+abbrev Inv-loop : tie.InvT-loop
+Inv-loop self u k m set₀ i₀ set i = (i ≤ 64) × Union (λ j x. PermitsBy (view self) u k x j) i set
+
+abbrev μ-loop : tie.MeasureT-loop
+μ-loop self u k m set₀ i₀ set i = 64 - i
+
+masks-requires : tie.Need-masks-requires Inv-loop μ-loop
+masks-requires c κs = search needs
+
+has-requires : tie.Need-has-requires Inv-loop μ-loop
+has-requires c κs = search needs
+
+returns : tie.Need-returns Inv-loop μ-loop
+returns c = set-none (λ x h. set-outside _ (c .before .has .ensures) (c .if1 .taken) (c .before .before .masks .ensures .users) (h .user))
+
+returns-2 : tie.Need-returns-2 Inv-loop μ-loop
+returns-2 c = set-none (λ x h. omega (arith, h .number, c .if2 .taken))
+
+loop-holds : tie.Need-loop-holds Inv-loop μ-loop
+loop-holds c = (search needs, union-none _)
+
+permitted-by-requires : tie.Need-permitted-by-requires Inv-loop μ-loop
+permitted-by-requires c κs = search needs
+
+add-i : tie.Need-add-i Inv-loop μ-loop
+add-i c = search needs
+
+loop-less : tie.Need-loop-less Inv-loop μ-loop
+loop-less c = search needs
+
+loop-again : tie.Need-loop-again Inv-loop μ-loop
+loop-again c = (search needs, union-add _ (c .before .before .loop .inv .1) (c .permitted-by .ensures))
+
+returns-3 : tie.Need-returns-3 Inv-loop μ-loop
+returns-3 c =
+    let all = union-end _ 64 (c .before .before .loop .inv .1) (omega (arith, c .before .loop-test .left)) in
+    let masks = c .before .before .before .before .before .before .masks .ensures in
+    set-as
+    (set-mask _ (masks .targets))
+    (λ x w.
+    record {
+      user = set-inside _ (c .before .before .before .before .before .has .ensures) (c .before .before .before .before .if1 .left) (masks .users);
+      target = w .1;
+      number = omega (arith, c .before .before .before .if2 .left);
+      by = all .only x (w .0);
+    })
+    (λ x h. (all .all x (h .by), h .target))
+
+pub permitted-spec : {M : Type 1} → statement M
+permitted-spec =
+    tie.close
+    (tie.spec
+    Inv-loop
+    μ-loop
+    masks-requires
+    has-requires
+    returns
+    returns-2
+    loop-holds
+    permitted-by-requires
+    add-i
+    loop-less
+    loop-again
+    returns-3)

@@ -1,0 +1,17 @@
+-- `counted` is the definition: both branches are its two cases.
+use borrow.Author.Tests.{le-leb, lt-leb}
+use Rattle.reach.specs.Tables.{counted}
+use borrow.Author.Needs.{needs}
+use Rattle.reach.proofs.objects.counted.Statement.{statement}
+use Rattle.reach.proofs.objects.counted.Tie as tie
+
+returns : tie.Need-returns
+unfolding counted
+returns c = rw (le-leb _ _ (c .if1 .taken))
+
+returns-2 : tie.Need-returns-2
+unfolding counted
+returns-2 c = rw (lt-leb _ _ (c .if1 .left))
+
+pub counted-spec : {M : Type 1} → statement M
+counted-spec = tie.close (tie.spec returns returns-2)

@@ -1,0 +1,157 @@
+// Objects and places: what a policy holds at a number, as it counts.
+ghost use mathlib.Core.Path.{_≡_};
+ghost use Rattle.reach.specs.Tables.{counted, sort, stored, appointment, standing, rule, noAppointment, noRule, initial};
+ghost use Rattle.reach.specs.Reach.{inUse, isGroup, isUser, isTarget, direct};
+use crate::AccessRule;
+use crate::Appointment;
+use crate::Policy;
+use crate::sets::has;
+
+// A sort or kind as it counts: an unknown one is 0, empty.
+fn counted(n: u8) -> u8
+    ensures { λ r. ⌜ r ≡ counted n ⌝ }
+{
+    if n <= 3 { n } else { 0 }
+}
+
+impl Appointment {
+    // An empty place holds zeros.
+    pub fn none() -> Appointment
+        ensures { λ r. ⌜ r ≡ noAppointment ⌝ }
+    {
+        Appointment {
+            kind: 0,
+            holder: 0,
+            a: 0,
+            b: 0,
+        }
+    }
+
+    // Whether the appointment is one, and not an empty place.
+    pub fn standing(self) -> bool
+        ensures { λ r. ⌜ r ≡ standing self ⌝ }
+    {
+        0 < counted(self.kind)
+    }
+}
+
+impl AccessRule {
+    // An empty place holds zeros.
+    pub fn none() -> AccessRule
+        ensures { λ r. ⌜ r ≡ noRule ⌝ }
+    {
+        AccessRule {
+            used: false,
+            users: 0,
+            targets: 0,
+            operations: 0,
+        }
+    }
+}
+
+impl Policy {
+    // Document 01's founding: group 0, user 1 directly in it and its owner, and nothing else.
+    pub fn initial() -> Policy
+        ensures { λ r. ⌜ r ≡ initial ⌝ }
+    {
+        let mut p = Policy {
+            sorts: [0u8; 64],
+            members: [0u64; 64],
+            appointments: [Appointment {
+                kind: 0,
+                holder: 0,
+                a: 0,
+                b: 0,
+            }; 32],
+            rules: [AccessRule {
+                used: false,
+                users: 0,
+                targets: 0,
+                operations: 0,
+            }; 64],
+        };
+        p.sorts[0] = 1;
+        p.sorts[1] = 2;
+        p.members[0] = 2;
+        p.appointments[0] = Appointment {
+            kind: 1,
+            holder: 1,
+            a: 0,
+            b: 0,
+        };
+        p
+    }
+
+    // The sort of object x as it counts: 0 empty, 1 group, 2 user, 3 target.
+    pub fn sort(self, x: u8) -> u8
+        ensures { λ r. ⌜ r ≡ sort self x ⌝ }
+    {
+        let i = x as usize;
+        if i < 64 { counted(self.sorts[i]) } else { 0 }
+    }
+
+    pub fn in_use(self, x: u8) -> bool
+        ensures { λ r. ⌜ r ≡ inUse self x ⌝ }
+    {
+        0 < self.sort(x)
+    }
+
+    pub fn is_group(self, x: u8) -> bool
+        ensures { λ r. ⌜ r ≡ isGroup self x ⌝ }
+    {
+        self.sort(x) == 1
+    }
+
+    pub fn is_user(self, x: u8) -> bool
+        ensures { λ r. ⌜ r ≡ isUser self x ⌝ }
+    {
+        self.sort(x) == 2
+    }
+
+    pub fn is_target(self, x: u8) -> bool
+        ensures { λ r. ⌜ r ≡ isTarget self x ⌝ }
+    {
+        self.sort(x) == 3
+    }
+
+    // Whether x is stored as directly in g.
+    pub fn stored(self, x: u8, g: u8) -> bool
+        ensures { λ r. ⌜ r ≡ stored self x g ⌝ }
+    {
+        let i = g as usize;
+        if i < 64 {
+            has(self.members[i], x)
+        } else {
+            false
+        }
+    }
+
+    // Whether x is directly in the group g, by a membership that counts.
+    pub fn direct(self, x: u8, g: u8) -> bool
+        ensures { λ r. ⌜ r ≡ direct self x g ⌝ }
+    {
+        self.in_use(x) & self.is_group(g) & self.stored(x, g)
+    }
+
+    // The appointment at place i; past the table there is none.
+    pub fn appointment(self, i: u8) -> Appointment
+        ensures { λ r. ⌜ r ≡ appointment self i ⌝ }
+    {
+        let n = i as usize;
+        if n < 32 {
+            return self.appointments[n];
+        }
+        Appointment::none()
+    }
+
+    // The rule at place i; past the table there is none.
+    pub fn rule(self, i: u8) -> AccessRule
+        ensures { λ r. ⌜ r ≡ rule self i ⌝ }
+    {
+        let n = i as usize;
+        if n < 64 {
+            return self.rules[n];
+        }
+        AccessRule::none()
+    }
+}
