@@ -20,7 +20,7 @@ use Rattle.reach.specs.Tables.{counted, sort, stored, appointment, noApp
 use Rattle.reach.specs.Tables.{View, view, Sized, initial}
 use Rattle.reach.specs.Successors.{withBit, withoutBit, withMembers, withSorts, onTable, addTo, removeFrom, cleared}
 use Rattle.reach.specs.Successors.{put, taken, made, appointed, dismissed, ruled, granted, withdrawn}
-use Rattle.reach.specs.Changes.{viewMade, viewPut, viewTaken, viewAppointed, viewDismissed, viewRuled, viewWithdrawn}
+use Rattle.reach.specs.Changes.{viewMade, viewPut, viewTaken, viewAppointed, viewDismissed, viewRuled, viewGranted, viewWithdrawn}
 use Rattle.reach.proofs.OneBit.{has-with, has-without}
 
 -- Views that read alike are equal.
@@ -141,7 +141,7 @@ module _ (p : Policy) (z : Sized p) where
   view-dismissed i a = view-appointed i noAppointment a
 
   pub view-granted : (i u t o : ℕ) → i < 64
-      → view (granted p i u t o) ≡ viewRuled (view p) i (record { used = true; users = u; targets = t; operations = o })
+      → view (granted p i u t o) ≡ viewGranted (view p) i u t o
   view-granted i u t o a = view-ruled i (record { used = true; users = u; targets = t; operations = o }) a
 
   pub view-withdrawn : (i : ℕ) → i < 64 → view (withdrawn p i) ≡ viewWithdrawn (view p) i

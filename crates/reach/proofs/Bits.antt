@@ -2,7 +2,7 @@
 -- law is one step of the library's laws on halves, by induction on the bit's number.
 use mathlib.Core.Path.{_≡_, refl, sym, ap, _∙_}
 use mathlib.Core.Logic.{_⊎_, inl, inr}
-use Prim.Native.Nat.{ℕ, zero, suc, _+_, _-_, _*_, _/_, _%_, _^_, _≤_, _<_, min, max, zero-le, suc-le-suc}
+use Prim.Native.Nat.{ℕ, zero, suc, _-_, _*_, _/_, _%_, _^_, _≤_, _<_, min, max, zero-le, suc-le-suc}
 use native.Mathlib.Nat.{pow-suc, div-one, div-eq-of-lt, lt-of-lt-of-le, le-of-suc-le-suc, not-suc-le-zero, one-mul}
 use native.Mathlib.Omega.{arith}
 use lib.Dec.{lit<}

@@ -1,19 +1,18 @@
 -- The test `under` decides the relation `Under`, for every policy, and a chain of at most 63 suffices on 64 objects.
 -- Each longer bound reaches one object more, or no longer bound ever does; 64 objects allow 63 such steps.
 use mathlib.Core.Path.{_≡_, refl, sym, subst}
-use mathlib.Core.Bool.{Bool, true, false, _&&_, _||_, false≢true}
+use mathlib.Core.Bool.{Bool, true, false}
 use mathlib.Core.Logic.{_⊎_, inl, inr, ⊎-elim}
 use Prim.Native.Nat.{ℕ, zero, suc, _+_, _≤_, _<_, zero-le}
 use native.Mathlib.Nat.{le-refl, not-suc-le-zero}
 use native.Mathlib.Decide.{decLt, decLe}
 use native.Mathlib.Omega.{arith}
-use lib.Dec.{eqb, ltb}
+use lib.Dec.{ltb}
 use lib.ListN.{getD}
 use Rattle.reach.specs.declared.Policy.{Policy}
-use Rattle.reach.specs.Words.{has}
-use Rattle.reach.specs.Tests.{_⇒_∥_, some, Some, Decides}
+use Rattle.reach.specs.Tests.{_⇒_∥_, Some, Decides}
 use Rattle.reach.specs.Tables.{counted, sort, stored, view}
-use Rattle.reach.specs.Reach.{InUse, Group, Direct, Under, itself, up, inUse, isGroup, direct, chain, under}
+use Rattle.reach.specs.Reach.{InUse, Direct, Under, itself, up, inUse, direct, chain, under}
 use Rattle.reach.proofs.Testing.{decides-as, decides-and, decides-or, decides-some, decides-eqb, decides-ltb, decides-true}
 use Rattle.reach.proofs.Reaching.{group-in-use, under-lower, under-upper}
 

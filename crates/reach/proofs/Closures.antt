@@ -1,6 +1,6 @@
 -- The closure table: the rows of the objects from n up are ready, each with all that is under its object. A store makes one row more
 -- ready; at 0 all are.
-use mathlib.Core.Path.{_≡_, refl, sym, _∙_, subst}
+use mathlib.Core.Path.{_≡_, sym, _∙_, subst}
 use mathlib.Core.List.{List}
 use mathlib.Core.Logic.{_⊎_, inl, inr, ⊎-elim}
 use Prim.Native.Nat.{ℕ, _+_, _*_, _%_, _^_, _≤_, _<_}
@@ -12,7 +12,7 @@ use lib.Dec.{lit<}
 use lib.ListN.{length, getD, set, length-set}
 use lib.Seq.{getD-set-same, getD-set-other}
 use Rattle.reach.specs.declared.Policy.{Policy}
-use Rattle.reach.specs.Words.{bit, SetOf, TableOf}
+use Rattle.reach.specs.Words.{bit, SetOf}
 use Rattle.reach.specs.Tables.{view}
 use Rattle.reach.specs.Reach.{Under}
 use Rattle.reach.specs.Surveys.{ClosureOf}

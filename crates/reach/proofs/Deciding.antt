@@ -1,6 +1,7 @@
 -- The tests of the privileges decide them, for every policy. Each law has the shape of its definition.
-use mathlib.Core.Path.{_≡_, refl, sym, subst}
-use mathlib.Core.Bool.{Bool, true, false, not, _&&_}
+use mathlib.Core.Path.{_≡_, refl, sym, _∙_, subst}
+use mathlib.Core.Bool.{Bool, true, false, not, _&&_, true≢false, and-eq-true-iff}
+use mathlib.Core.Logic.{⊎-elim}
 use Prim.Native.Nat.{ℕ, _-_, _^_, _<_}
 use native.Mathlib.Omega.{arith}
 use lib.Bits.{bitAnd}
@@ -10,9 +11,9 @@ use Rattle.reach.specs.declared.Place.the-variants.{At, Nothing}
 use Rattle.reach.specs.Words.{bit, has, SetOf}
 use Rattle.reach.specs.Tests.{some, Some, Decides}
 use Rattle.reach.specs.Tables.{sort, appointment, rule, view}
-use Rattle.reach.specs.Reach.{InUse, User, Target, inUse, isUser, isTarget, under}
-use Rattle.reach.specs.Privileges.{HoldsBy, Holds, Owns, AdministersBy, Administers, PermitsBy, Permitted, Orphan, owner, administrator, holdsBy, holds, owns, administersBy, administers, permitsBy, askable, permitted, permitting, orphaned}
-use Rattle.reach.proofs.Testing.{decides-as, decides-same, decides-and, decides-not, decides-some, decides-eqb, decides-ltb, decides-true, some-map, lowest-none, lowest-found}
+use Rattle.reach.specs.Reach.{InUse, User, Target, isUser, isTarget}
+use Rattle.reach.specs.Privileges.{HoldsBy, Holds, AdministersBy, Administers, PermitsBy, Permitted, Orphan, owner, administrator, holdsBy, holds, administersBy, administers, permitsBy, askable, permitted, permitting, orphaned}
+use Rattle.reach.proofs.Testing.{decides-as, decides-same, decides-and, decides-not, decides-some, decides-eqb, decides-ltb, decides-true, some-map, lowest-none, lowest-found, LowestAt, lowest-cases}
 use Rattle.reach.proofs.WordSets.{set-mask, set-not, decides-nonempty}
 use Rattle.reach.proofs.Chains.{in-use-below, decides-in-use, under-decides}
 
@@ -31,7 +32,7 @@ decides-holds-by p kind u x i =
     (λ w. record { is-kind = w .0 .0; is-holder = w .0 .1; covers = w .1 })
     (λ h. ((h .is-kind, h .is-holder), h .covers))
 
--- `owns-decides` and `manages-decides` are this law at owner and manager.
+-- Owning and managing are this law at owner and manager.
 pub holds-decides : (p : Policy) (kind u x : ℕ) → Decides (holds p kind u x) (Holds (view p) kind u x)
 unfolding holds
 holds-decides p kind u x =
@@ -148,3 +149,19 @@ module _ (p : Policy) (u k x : ℕ) where
       → At i ≡ permitting p u k x
   unfolding permitting
   permitting-at i e l f g = rw e (sym (lowest-found 64 (permitsBy p u k x) i l f g))
+
+  -- Who is permitted it is so by the lowest of the places that permit it.
+  pub permitted-lowest : permitted p u k x ≡ true → Some 64 (λ i. (permitting p u k x ≡ At i) × LowestAt 64 (permitsBy p u k x) i)
+  unfolding permitted permitting
+  permitted-lowest e =
+      let a : (askable p u k x ≡ true) × (some 64 (permitsBy p u k x) ≡ true) = simp and-eq-true-iff at e in
+      ⊎-elim
+      (λ n. absurd (true≢false (sym (a .1) ∙ n)))
+      (λ w.
+      let f = w .at in
+      record {
+        place = w .place;
+        low = w .low;
+        at = (rw (a .0) (lowest-found 64 (permitsBy p u k x) (w .place) (f .low) (f .none) (f .here)), f);
+      })
+      (lowest-cases 64 (permitsBy p u k x))

@@ -14,7 +14,7 @@ use Rattle.reach.specs.Tests.{_⇒_∥_}
 use Rattle.reach.specs.Tables.{counted, View}
 use Rattle.reach.specs.Reach.{InUse, Group, Direct, Under, itself, up}
 use Rattle.reach.specs.Changes.{viewMade, viewPut, viewTaken, viewAppointed, viewRuled}
-use Rattle.reach.proofs.Reaching.{group-in-use, under-trans, under-map}
+use Rattle.reach.proofs.Reaching.{group-in-use, under-trans, under-map, under-upper}
 
 -- A stored membership is the new one, or an old one.
 new-or-old : (t s : Bool) → (t ⇒ true ∥ s) ≡ true → (t ≡ true) ⊎ (s ≡ true)
@@ -60,11 +60,10 @@ put-keeps v x g u =
     still false s e = e
 
 -- What is under x comes under all that g is under.
-pub put-adds : (v : View) (x g : ℕ) → InUse v x → Group v g
-    → {y k : ℕ} → Under v y x → Under v g k → Under (viewPut v x g) y k
-put-adds v x g i j a b =
+pub put-adds : (v : View) (x g : ℕ) → Group v g → {y k : ℕ} → Under v y x → Under v g k → Under (viewPut v x g) y k
+put-adds v x g j a b =
     under-trans (put-keeps v x g a)
-    (up (record { object = i; group = j; is-stored = rw (eq-eqb x x refl, eq-eqb g g refl) }) (put-keeps v x g b))
+    (up (record { object = under-upper a; group = j; is-stored = rw (eq-eqb x x refl, eq-eqb g g refl) }) (put-keeps v x g b))
 
 pub put-adds-only : (v : View) (x g : ℕ) {y k : ℕ} → Under (viewPut v x g) y k → Under v y k ⊎ (Under v y x × Under v g k)
 put-adds-only v x g (itself i) = inl (itself i)

@@ -2,7 +2,7 @@
 -- it is made of. By induction on the chain.
 use mathlib.Core.Path.{_≡_, refl, subst}
 use mathlib.Core.Logic.{_⊎_, inl, inr, ⊎-elim}
-use Prim.Native.Nat.{ℕ, _<_}
+use Prim.Native.Nat.{ℕ}
 use native.Mathlib.Omega.{arith}
 use Rattle.reach.specs.Tables.{View}
 use Rattle.reach.specs.Reach.{InUse, Group, Direct, Under, itself, up}

@@ -1,13 +1,11 @@
 -- The search for what is under g. What is found is under g, g is found, and all that is directly in a group that is done is found;
 -- so once no group is left to do, all that is under g is found, by induction on its chain. No chain is counted.
-use mathlib.Core.Path.{_≡_, refl, sym, ap, _∙_, subst}
+use mathlib.Core.Path.{_≡_, refl, sym, subst}
 use mathlib.Core.Logic.{_⊎_, inl, inr, ⊎-elim}
 use Prim.Native.Nat.{ℕ, _-_, _*_, _%_, _^_, _<_}
-use native.Mathlib.Omega.{arith}
 use lib.Bits.{bitAnd, bitOr}
 use lib.Dec.{lit<}
 use lib.ListN.{getD}
-use lib.Count.{trailingZeros}
 use borrow.Author.Tests.{eqb-true, eq-eqb}
 use Rattle.reach.specs.declared.Policy.{Policy}
 use Rattle.reach.specs.declared.Masks.{Masks}
@@ -16,7 +14,7 @@ use Rattle.reach.specs.Tables.{stored, view}
 use Rattle.reach.specs.Reach.{InUse, Group, Direct, Under, itself, up}
 use Rattle.reach.specs.Surveys.{MasksOf}
 use Rattle.reach.proofs.Bits.{bit-two, bit-clash, bit-none, or-grows}
-use Rattle.reach.proofs.WordSets.{set-bits, set-as, set-or, set-mask, set-not, set-one, set-empty, set-lowest}
+use Rattle.reach.proofs.WordSets.{set-bits, set-as, set-or, set-mask, set-not, set-one, set-empty}
 use Rattle.reach.proofs.Reaching.{group-in-use, under-trans}
 use Rattle.reach.proofs.Chains.{in-use-below}
 

@@ -141,3 +141,26 @@ lowest-at other (suc n) t i l z e = go (λ k. lowest-at (t n ⇒ At n ∥ other)
 -- One that is found with nothing found below it is the lowest.
 pub lowest-found : (n : ℕ) (t : ℕ → Bool) (i : ℕ) → i < n → some i t ≡ false → t i ≡ true → lowest n t ≡ At i
 lowest-found n t i l z e = lowest-at Nothing n t i l z e
+
+-- Either none passes, or one passes with none below it.
+pub record LowestAt (n : ℕ) (t : ℕ → Bool) (i : ℕ) : Type 0 where
+  pub low : i < n
+  pub here : t i ≡ true
+  pub none : some i t ≡ false
+
+pub lowest-cases : (n : ℕ) (t : ℕ → Bool) → (some n t ≡ false) ⊎ Some n (LowestAt n t)
+unfolding some
+lowest-cases zero t = inl refl
+lowest-cases (suc n) t = go (lowest-cases n t) (t n) refl
+  where
+    go : (some n t ≡ false) ⊎ Some n (LowestAt n t) → (b : Bool) → t n ≡ b → ((some n t || t n) ≡ false) ⊎ Some (suc n) (LowestAt (suc n) t)
+    go (inr w) b e =
+        inr
+        (record {
+          place = w .place;
+          low = omega (arith, w .low);
+          at = record { low = omega (arith, w .low); here = w .at .here; none = w .at .none };
+        })
+    go (inl z) true e =
+        inr (record { place = n; low = omega arith; at = record { low = omega arith; here = e; none = z } })
+    go (inl z) false e = inl (rw (z, e))

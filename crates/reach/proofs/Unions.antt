@@ -2,14 +2,14 @@
 -- gives at some place below n.
 use mathlib.Core.Path.{_≡_, subst}
 use mathlib.Core.Logic.{_⊎_, inl, inr, ⊎-elim}
-use Prim.Native.Nat.{ℕ, _+_, _≤_, _<_}
+use Prim.Native.Nat.{ℕ, _+_}
 use native.Mathlib.Nat.{not-suc-le-zero}
 use native.Mathlib.Omega.{arith}
 use lib.Bits.{bitOr}
-use Rattle.reach.specs.Words.{bit, SetOf}
+use Rattle.reach.specs.Words.{SetOf}
 use Rattle.reach.specs.Tests.{Some}
 use Rattle.reach.proofs.Testing.{some-up}
-use Rattle.reach.proofs.WordSets.{set-as, set-at, set-or, set-none, below-next}
+use Rattle.reach.proofs.WordSets.{set-as, set-or, set-none, below-next}
 
 module _ (Q : ℕ → ℕ → Type 0) where
   -- The set has what Q gives below n.

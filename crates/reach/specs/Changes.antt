@@ -37,6 +37,7 @@ viewTaken v x g =
       rule = v .rule;
     }
 
+-- APPOINT fills a place, and DISMISS empties it.
 abbrev pub viewAppointed : View → ℕ → Appointment → View
 viewAppointed v i w =
     record {
@@ -46,7 +47,10 @@ viewAppointed v i w =
       rule = v .rule;
     }
 
--- [01:who.10] "Fills or empties that place."
+abbrev pub viewDismissed : View → ℕ → View
+viewDismissed v i = viewAppointed v i noAppointment
+
+-- [01:who.10] GRANT, WITHDRAW: "Fills or empties that place."
 abbrev pub viewRuled : View → ℕ → AccessRule → View
 viewRuled v i r =
     record {
@@ -56,9 +60,8 @@ viewRuled v i r =
       rule = λ j. eqb j i ⇒ r ∥ v .rule j;
     }
 
--- DISMISS and WITHDRAW empty a place.
-abbrev pub viewDismissed : View → ℕ → View
-viewDismissed v i = viewAppointed v i noAppointment
+abbrev pub viewGranted : View → ℕ → ℕ → ℕ → ℕ → View
+viewGranted v i u t o = viewRuled v i (record { used = true; users = u; targets = t; operations = o })
 
 abbrev pub viewWithdrawn : View → ℕ → View
 viewWithdrawn v i = viewRuled v i noRule

@@ -1,16 +1,16 @@
--- The policy after each accepted change: whole, as the contracts cite it, and below that as it is read. Whatever a change does not
--- name stays as it was, bit for bit (D6); one that names a number past its table changes nothing.
-use mathlib.Core.Bool.{Bool, true, false, not, _&&_, _||_}
+-- The policy after each accepted change, whole. Whatever a change does not name stays as it was, bit for bit, and one of an object, group
+-- or place past its table changes nothing (D6).
+use mathlib.Core.Bool.{Bool, true, _&&_}
 use mathlib.Core.List.{List, map}
 use Prim.Native.Nat.{ℕ, _+_, _-_, _^_}
-use lib.Dec.{eqb, ltb}
+use lib.Dec.{ltb}
 use lib.ListN.{getD, set}
 use Rattle.reach.specs.declared.Policy.{Policy}
 use Rattle.reach.specs.declared.Appointment.{Appointment}
 use Rattle.reach.specs.declared.AccessRule.{AccessRule}
 use Rattle.reach.specs.Words.{has}
 use Rattle.reach.specs.Tests.{_⇒_∥_}
-use Rattle.reach.specs.Tables.{counted, noAppointment, noRule, View}
+use Rattle.reach.specs.Tables.{noAppointment, noRule}
 
 -- The set w with x, and without x.
 unfoldable pub withBit : ℕ → ℕ → ℕ
@@ -55,7 +55,8 @@ cleared l x = set (map (withoutBit x) l) x 0
 unfoldable pub made : Policy → ℕ → ℕ → ℕ → Policy
 made p x k g = onTable x g ⇒ withSorts (withMembers p (addTo (cleared (p .members) x) x g)) (set (p .sorts) x k) ∥ p
 
--- APPOINT and DISMISS fill and empty a place; an emptied place "holds zeros" [01:keeps.19].
+-- APPOINT and DISMISS fill and empty a place; [01:keeps.19] a place "that a request empties, holds zeros". `set` past the end of a list
+-- changes nothing.
 unfoldable pub appointed : Policy → ℕ → Appointment → Policy
 appointed p i w = withAppointments p (set (p .appointments) i w)
 

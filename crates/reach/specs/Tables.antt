@@ -1,7 +1,7 @@
 -- What the board keeps: the policy (document 01's sheet), as it counts whatever value it has, and the founding.
 use mathlib.Core.Path.{_≡_}
-use mathlib.Core.Bool.{Bool, true, false}
-use mathlib.Core.List.{List, _∷_}
+use mathlib.Core.Bool.{Bool, false}
+use mathlib.Core.List.{_∷_}
 use Prim.Native.Nat.{ℕ}
 use lib.Dec.{leb, ltb}
 use lib.ListN.{length, getD, replicate}
@@ -26,7 +26,7 @@ unfoldable pub stored : Policy → ℕ → ℕ → Bool
 stored p x g = has (getD (p .members) g 0) x
 
 -- [01:keeps.11] "32 warrants, places 0 to 31: empty, or kind (1 owner, 2 manager, 3 administrator), holder (a member), group A,
--- group B." [01:keeps.19] An empty place "holds zeros".
+-- group B." [01:keeps.19] "A place that is empty at the founding, or that a request empties, holds zeros."
 abbrev pub noAppointment : Appointment
 noAppointment = record { kind = 0; holder = 0; a = 0; b = 0 }
 

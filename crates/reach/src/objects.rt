@@ -1,6 +1,6 @@
 // Objects and places: what a policy holds at a number, as it counts.
 ghost use mathlib.Core.Path.{_≡_};
-ghost use Rattle.reach.specs.Tables.{counted, sort, stored, appointment, standing, rule, noAppointment, noRule, initial};
+ghost use Rattle.reach.specs.Tables.{counted, sort, stored, appointment, standing, rule, initial};
 ghost use Rattle.reach.specs.Reach.{inUse, isGroup, isUser, isTarget, direct};
 use crate::AccessRule;
 use crate::Appointment;
@@ -15,37 +15,11 @@ fn counted(n: u8) -> u8
 }
 
 impl Appointment {
-    // An empty place holds zeros.
-    pub fn none() -> Appointment
-        ensures { λ r. ⌜ r ≡ noAppointment ⌝ }
-    {
-        Appointment {
-            kind: 0,
-            holder: 0,
-            a: 0,
-            b: 0,
-        }
-    }
-
     // Whether the appointment is one, and not an empty place.
     pub fn standing(self) -> bool
         ensures { λ r. ⌜ r ≡ standing self ⌝ }
     {
         0 < counted(self.kind)
-    }
-}
-
-impl AccessRule {
-    // An empty place holds zeros.
-    pub fn none() -> AccessRule
-        ensures { λ r. ⌜ r ≡ noRule ⌝ }
-    {
-        AccessRule {
-            used: false,
-            users: 0,
-            targets: 0,
-            operations: 0,
-        }
     }
 }
 
@@ -90,24 +64,28 @@ impl Policy {
         if i < 64 { counted(self.sorts[i]) } else { 0 }
     }
 
+    // Whether x is an object in use.
     pub fn in_use(self, x: u8) -> bool
         ensures { λ r. ⌜ r ≡ inUse self x ⌝ }
     {
         0 < self.sort(x)
     }
 
+    // Whether x is a group.
     pub fn is_group(self, x: u8) -> bool
         ensures { λ r. ⌜ r ≡ isGroup self x ⌝ }
     {
         self.sort(x) == 1
     }
 
+    // Whether x is a user, document 01's member.
     pub fn is_user(self, x: u8) -> bool
         ensures { λ r. ⌜ r ≡ isUser self x ⌝ }
     {
         self.sort(x) == 2
     }
 
+    // Whether x is a target, document 01's gear.
     pub fn is_target(self, x: u8) -> bool
         ensures { λ r. ⌜ r ≡ isTarget self x ⌝ }
     {
@@ -141,7 +119,12 @@ impl Policy {
         if n < 32 {
             return self.appointments[n];
         }
-        Appointment::none()
+        Appointment {
+            kind: 0,
+            holder: 0,
+            a: 0,
+            b: 0,
+        }
     }
 
     // The rule at place i; past the table there is none.
@@ -152,6 +135,11 @@ impl Policy {
         if n < 64 {
             return self.rules[n];
         }
-        AccessRule::none()
+        AccessRule {
+            used: false,
+            users: 0,
+            targets: 0,
+            operations: 0,
+        }
     }
 }

@@ -79,7 +79,7 @@ fn permitted_by(p: Policy, m: Masks, u: u8, k: u8, i: usize) -> u64
 
 impl Policy {
     // All that u holds by appointments of one kind.
-    pub fn held(self, kind: u8, u: u8) -> u64
+    fn held(self, kind: u8, u: u8) -> u64
         ensures { λ r. ⌜ SetOf r (λ x. Holds (view self) kind u x) ⌝ }
     {
         let m = self.masks();
@@ -109,12 +109,14 @@ impl Policy {
         self.held(2, u)
     }
 
+    // Whether u owns x.
     pub fn owns(self, u: u8, x: u8) -> bool
         ensures { λ r. ⌜ r ≡ owns self u x ⌝ }
     {
         has(self.owned(u), x)
     }
 
+    // Whether u manages x.
     pub fn manages(self, u: u8, x: u8) -> bool
         ensures { λ r. ⌜ r ≡ manages self u x ⌝ }
     {
@@ -138,6 +140,7 @@ impl Policy {
         set
     }
 
+    // Whether u administers the pair (a, b), by one appointment.
     pub fn administers(self, u: u8, a: u8, b: u8) -> bool
         ensures { λ r. ⌜ r ≡ administers self u a b ⌝ }
     {

@@ -1,6 +1,6 @@
 // The policy after each accepted change. What a change does not name stays as it was.
 ghost use mathlib.Core.Path.{_≡_};
-ghost use Rattle.reach.specs.Successors.{made, put, taken, appointed, dismissed, ruled, granted, withdrawn};
+ghost use Rattle.reach.specs.Successors.{made, put, taken, appointed, dismissed, granted, withdrawn};
 use crate::AccessRule;
 use crate::Appointment;
 use crate::Policy;
@@ -70,41 +70,53 @@ impl Policy {
     }
 
     // The appointment at place i taken away.
-    pub fn dismissed(self, i: u8) -> Policy
+    pub fn dismissed(mut self, i: u8) -> Policy
         ensures { λ r. ⌜ r ≡ dismissed self i ⌝ }
     {
-        self.appointed(i, Appointment::none())
+        let n = i as usize;
+        if n >= 32 {
+            return self;
+        }
+        self.appointments[n] = Appointment {
+            kind: 0,
+            holder: 0,
+            a: 0,
+            b: 0,
+        };
+        self
     }
 
-    // The place i filled with a rule.
-    fn ruled(mut self, i: u8, rule: AccessRule) -> Policy
-        ensures { λ r. ⌜ r ≡ ruled self i rule ⌝ }
+    // The place i filled with the rule of users, targets and operations.
+    pub fn granted(mut self, i: u8, users: u8, targets: u8, operations: u8) -> Policy
+        ensures { λ r. ⌜ r ≡ granted self i users targets operations ⌝ }
     {
         let n = i as usize;
         if n >= 64 {
             return self;
         }
-        self.rules[n] = rule;
-        self
-    }
-
-    // The rule of users, targets and operations at place i.
-    pub fn granted(self, i: u8, users: u8, targets: u8, operations: u8) -> Policy
-        ensures { λ r. ⌜ r ≡ granted self i users targets operations ⌝ }
-    {
-        let rule = AccessRule {
+        self.rules[n] = AccessRule {
             used: true,
             users,
             targets,
             operations,
         };
-        self.ruled(i, rule)
+        self
     }
 
     // The rule at place i taken away.
-    pub fn withdrawn(self, i: u8) -> Policy
+    pub fn withdrawn(mut self, i: u8) -> Policy
         ensures { λ r. ⌜ r ≡ withdrawn self i ⌝ }
     {
-        self.ruled(i, AccessRule::none())
+        let n = i as usize;
+        if n >= 64 {
+            return self;
+        }
+        self.rules[n] = AccessRule {
+            used: false,
+            users: 0,
+            targets: 0,
+            operations: 0,
+        };
+        self
     }
 }

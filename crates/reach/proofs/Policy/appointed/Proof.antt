@@ -1,7 +1,7 @@
 -- `appointed` is its definition: a store at a place of the table, and past its end `set` changes nothing.
-use mathlib.Core.Path.{_≡_, refl, sym, ap, _∙_}
+use mathlib.Core.Path.{_≡_, sym, ap}
 use native.Mathlib.Omega.{arith}
-use lib.ListN.{length, set}
+use lib.ListN.{length}
 use lib.Seq.{set-out}
 use Rattle.reach.specs.Successors.{withAppointments, appointed}
 use Rattle.reach.proofs.Lists.{length-mapped}

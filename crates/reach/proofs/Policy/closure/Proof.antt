@@ -1,12 +1,12 @@
 -- The closure has all that is under each object: the outer invariant is `Ready`, the rows from n up are right; the inner one `Seeking`.
 -- A turn of the inner loop takes a group by its row, where that is ready, or alone.
-use mathlib.Core.Path.{_≡_, refl, sym, ap, _∙_}
+use mathlib.Core.Path.{_≡_, refl}
 use native.Mathlib.Omega.{arith}
 use lib.Bits.{bitAnd}
 use lib.Count.{trailingZeros}
 use Rattle.reach.specs.Words.{bit}
 use mathlib.Core.Logic.{⊎-elim}
-use Prim.Native.Nat.{ℕ, _+_, _-_, _^_, _≤_, _<_}
+use Prim.Native.Nat.{_-_, _^_, _≤_, _<_}
 use Rattle.reach.proofs.Bits.{lowest-bit}
 use Rattle.reach.proofs.WordSets.{set-mask}
 use Rattle.reach.proofs.Seeking.{Seeking, Turn, seek-start, seek-end, turn-row, turn-one, turn-at}

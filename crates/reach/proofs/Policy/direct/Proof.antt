@@ -1,5 +1,4 @@
 -- `direct` is its definition, by the contracts of what it calls.
-use mathlib.Core.Path.{_≡_, refl, sym, ap, _∙_}
 use Rattle.reach.specs.Reach.{direct}
 use borrow.Author.Needs.{needs}
 use Rattle.reach.proofs.Policy.direct.Statement.{statement}

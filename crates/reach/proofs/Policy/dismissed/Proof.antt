@@ -1,17 +1,30 @@
--- `dismissed` is its definition, by the contracts of what it calls.
-use mathlib.Core.Path.{_≡_, refl, sym, ap, _∙_}
+-- `dismissed` is its definition: a store at a place of the table, and past its end `set` changes nothing.
+use mathlib.Core.Path.{_≡_, sym, ap}
+use native.Mathlib.Omega.{arith}
+use lib.ListN.{length}
+use lib.Seq.{set-out}
+use Rattle.reach.specs.Successors.{withAppointments, appointed}
+use Rattle.reach.proofs.Lists.{length-mapped}
 use borrow.Author.Needs.{needs}
 use Rattle.reach.proofs.Policy.dismissed.Statement.{statement}
 use Rattle.reach.proofs.Policy.dismissed.Tie as tie
 
-none-requires : tie.Need-none-requires
-none-requires c κs = search needs
-
-appointed-requires : tie.Need-appointed-requires
-appointed-requires c κs = search needs
-
 returns : tie.Need-returns
-returns c = c .appointed .ensures ∙ rw (c .before .none .ensures)
+unfolding appointed
+returns c =
+    let a = c .before .args in
+    let long : length (a .t1 .appointments) ≡ 32 = search (needs, length-mapped) in
+    ap (withAppointments (a .t1)) (sym (set-out (a .t1 .appointments) (a .i) _ (omega (arith, long, c .if1 .taken))))
+
+mul-t7 : tie.Need-mul-t7
+mul-t7 c = search needs
+
+element-set-from-self : tie.Need-element-set-from-self
+element-set-from-self c = search needs
+
+returns-2 : tie.Need-returns-2
+unfolding appointed
+returns-2 c = search needs
 
 pub dismissed-spec : {M : Type 1} → statement M
-dismissed-spec = tie.close (tie.spec none-requires appointed-requires returns)
+dismissed-spec = tie.close (tie.spec returns mul-t7 element-set-from-self returns-2)

@@ -1,6 +1,6 @@
 -- The set is a union over the places of the table, each with its own contract; who is no user holds nothing.
 use native.Mathlib.Omega.{arith}
-use Prim.Native.Nat.{ℕ, _-_, _≤_, _<_}
+use Prim.Native.Nat.{_-_, _≤_}
 use Rattle.reach.specs.Tables.{view}
 use Rattle.reach.specs.Privileges.{HoldsBy}
 use Rattle.reach.proofs.WordSets.{set-as, set-none, set-outside, set-inside}

@@ -1,9 +1,9 @@
 -- `made` is its definition: the loop takes x out of the first i rows; then row x and the sort are stored, and `put` adds the one membership.
-use mathlib.Core.Path.{_≡_, refl, sym, ap, _∙_}
+use mathlib.Core.Path.{_≡_, refl, ap, _∙_}
 use native.Mathlib.Omega.{arith}
 use Prim.Native.Nat.{ℕ, _-_, _*_, _%_, _^_, _≤_, _<_}
 use borrow.Author.Tests.{lt-ltb, le-ltb}
-use mathlib.Core.List.{List, map}
+use mathlib.Core.List.{map}
 use lib.Bits.{bitAnd}
 use lib.ListN.{length, getD, set}
 use mir.Syntax.{w64}

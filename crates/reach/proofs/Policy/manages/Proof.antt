@@ -1,5 +1,5 @@
 -- `manages` is its test: the set's own test of x, by the law that both decide it.
-use mathlib.Core.Path.{_≡_, refl, sym, ap, _∙_}
+use mathlib.Core.Path.{_∙_}
 use Rattle.reach.proofs.WordSets.{has-is}
 use Rattle.reach.proofs.Deciding.{holds-decides}
 use borrow.Author.Needs.{needs}

@@ -1,11 +1,9 @@
 -- The masks are the sets of the objects of each sort: after i turns each has those below i, and all that is in use is of one of the three
 -- sorts.
-use mathlib.Core.Path.{_≡_, refl, sym, ap, _∙_}
 use native.Mathlib.Omega.{arith}
-use Prim.Native.Nat.{ℕ, _+_, _-_, _^_, _≤_, _<_}
-use Rattle.reach.specs.declared.Policy.{Policy}
+use Prim.Native.Nat.{_-_, _≤_, _<_}
 use Rattle.reach.specs.Words.{SetOf}
-use Rattle.reach.specs.Tables.{sort, view}
+use Rattle.reach.specs.Tables.{view}
 use Rattle.reach.specs.Reach.{Group, User, Target}
 use Rattle.reach.proofs.Sorts.{decides-sort, in-use-cases, in-use-of-sort}
 use Rattle.reach.proofs.Chains.{in-use-below}

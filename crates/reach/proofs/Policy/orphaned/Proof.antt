@@ -1,7 +1,6 @@
 use Rattle.reach.proofs.Deciding.{orphan-decides}
-use mathlib.Core.Path.{_≡_, refl, sym, ap, _∙_}
 use native.Mathlib.Omega.{arith}
-use Prim.Native.Nat.{ℕ, _-_, _≤_, _<_}
+use Prim.Native.Nat.{_-_, _≤_}
 use Rattle.reach.specs.Tables.{appointment, view}
 use Rattle.reach.specs.Reach.{User}
 use Rattle.reach.specs.Privileges.{owner, HoldsBy}

@@ -1,6 +1,6 @@
 -- The set is a union over the rules, each with its own contract, and of that the targets; who is no user is permitted nothing.
 use native.Mathlib.Omega.{arith}
-use Prim.Native.Nat.{ℕ, _-_, _≤_, _<_}
+use Prim.Native.Nat.{_-_, _≤_}
 use Rattle.reach.specs.Tables.{view}
 use Rattle.reach.specs.Privileges.{PermitsBy}
 use Rattle.reach.proofs.WordSets.{set-as, set-none, set-mask, set-outside, set-inside}

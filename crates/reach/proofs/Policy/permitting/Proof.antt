@@ -1,14 +1,13 @@
-use mathlib.Core.Bool.{Bool, true, false}
+use mathlib.Core.Bool.{false}
 use borrow.Author.Tests.{not-true, not-false}
 use Rattle.reach.proofs.Testing.{decides-at}
 use Rattle.reach.proofs.WordSets.{decides-has}
 use Rattle.reach.proofs.Deciding.{askable-is, permitting-not, permitting-none, permitting-at}
-use mathlib.Core.Path.{_≡_, refl, sym, ap, _∙_}
-use native.Mathlib.Omega.{arith}
-use Prim.Native.Nat.{ℕ, _-_, _≤_, _<_}
+use mathlib.Core.Path.{_≡_, sym, _∙_}
+use Prim.Native.Nat.{_-_, _≤_}
 use Rattle.reach.specs.Tests.{some}
-use Rattle.reach.specs.Privileges.{permitsBy, permitting}
-use Rattle.reach.proofs.Testing.{none-start, none-next, none-end, lowest-none, lowest-found}
+use Rattle.reach.specs.Privileges.{permitsBy}
+use Rattle.reach.proofs.Testing.{none-start, none-next, none-end}
 use Rattle.reach.proofs.Deciding.{decides-permits-by}
 use Rattle.reach.proofs.WordSets.{has-is}
 use borrow.Author.Needs.{needs}

@@ -1,5 +1,4 @@
 -- `put` is its definition: on the table the machine's word is the changed set, and past it nothing changes.
-use mathlib.Core.Path.{_≡_, refl, sym, ap, _∙_}
 use borrow.Author.Tests.{lt-ltb, le-ltb}
 use Rattle.reach.specs.Successors.{put}
 use Rattle.reach.proofs.OneBit.{or-is-with}

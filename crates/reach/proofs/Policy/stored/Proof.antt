@@ -1,5 +1,5 @@
 -- `stored` is its definition: the bit of row g, and past the end of the table there is none.
-use mathlib.Core.Path.{_≡_, refl, sym, ap, _∙_}
+use mathlib.Core.Path.{_≡_}
 use native.Mathlib.Omega.{arith}
 use lib.ListN.{length}
 use Rattle.reach.specs.Tables.{stored}

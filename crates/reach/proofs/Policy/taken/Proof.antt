@@ -1,5 +1,4 @@
 -- `taken` is its definition: on the table the machine's word is the changed set, and past it nothing changes.
-use mathlib.Core.Path.{_≡_, refl, sym, ap, _∙_}
 use borrow.Author.Tests.{lt-ltb, le-ltb}
 use Rattle.reach.specs.Successors.{taken}
 use Rattle.reach.proofs.OneBit.{and-is-without}

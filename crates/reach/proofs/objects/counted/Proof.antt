@@ -1,7 +1,6 @@
 -- `counted` is the definition: both branches are its two cases.
 use borrow.Author.Tests.{le-leb, lt-leb}
 use Rattle.reach.specs.Tables.{counted}
-use borrow.Author.Needs.{needs}
 use Rattle.reach.proofs.objects.counted.Statement.{statement}
 use Rattle.reach.proofs.objects.counted.Tie as tie
 

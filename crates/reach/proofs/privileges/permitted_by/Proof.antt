@@ -1,5 +1,5 @@
 -- What one rule permits u is what is under its targets, if it is in use and has the operation and u is under its users.
-use mathlib.Core.Path.{_≡_, refl, sym, ap, _∙_}
+use mathlib.Core.Path.{sym, _∙_}
 use mathlib.Core.Bool.{true≢false}
 use borrow.Author.Tests.{eqb-true, not-true, not-false}
 use Rattle.reach.specs.Words.{has}

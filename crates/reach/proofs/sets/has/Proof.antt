@@ -1,7 +1,5 @@
 -- `has` is its definition: `(set >> x) & 1` is bit x, and a word has no bit from 64 up.
-use mathlib.Core.Path.{_≡_, refl, sym, ap, _∙_}
-use native.Mathlib.Omega.{arith}
-use Rattle.reach.specs.Words.{bit, has}
+use Rattle.reach.specs.Words.{has}
 use Rattle.reach.proofs.Bits.{low-bit, bit-high}
 use borrow.Author.Needs.{needs}
 use Rattle.reach.proofs.sets.has.Statement.{statement}

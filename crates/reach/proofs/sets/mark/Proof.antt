@@ -1,8 +1,7 @@
 -- `mark` gives the set that it is to: `1 << i` is the set of i alone.
 use mathlib.Core.Bool.{true≢false}
-use mathlib.Core.Path.{_≡_, refl, sym, ap, _∙_}
+use mathlib.Core.Path.{sym, _∙_}
 use Rattle.reach.proofs.WordSets.{set-as, set-one, set-none}
-use native.Mathlib.Omega.{arith}
 use borrow.Author.Needs.{needs}
 use Rattle.reach.proofs.sets.mark.Statement.{statement}
 use Rattle.reach.proofs.sets.mark.Tie as tie

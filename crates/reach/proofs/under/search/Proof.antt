@@ -1,8 +1,8 @@
 -- The search finds all that is under g: the invariant is `Seeking`, and each turn does one group more. The measure is what `done` may
 -- still grow by.
-use mathlib.Core.Path.{_≡_, refl, sym, ap, _∙_}
+use mathlib.Core.Path.{_≡_}
 use native.Mathlib.Omega.{arith}
-use Prim.Native.Nat.{ℕ, _-_, _*_, _%_, _^_, _<_}
+use Prim.Native.Nat.{_-_, _*_, _%_, _^_, _<_}
 use lib.Bits.{bitAnd, bitOr}
 use lib.Count.{trailingZeros}
 use lib.ListN.{getD}
