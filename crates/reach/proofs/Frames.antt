@@ -151,3 +151,35 @@ module _ (v : View) (x s g : ℕ) where
   -- And under nothing else but itself.
   pub made-under-only : {k : ℕ} → Under (viewMade v x s g) x k → (k ≡ x) ⊎ Under v g k
   made-under-only u = only refl u
+
+-- ---- Direct memberships after each change: the new one, or an old one
+
+pub direct-same : (v w : View) → ((x : ℕ) → v .sort x ≡ w .sort x) → ((x g : ℕ) → v .stored x g ≡ w .stored x g)
+    → {x g : ℕ} → Direct v x g → Direct w x g
+direct-same v w s m {x} {g} d = direct-map v w (s x) (s g) (λ e. sym (m x g) ∙ e) d
+
+pub put-direct : (v : View) (x g : ℕ) {y h : ℕ} → Direct (viewPut v x g) y h → ((y ≡ x) × (h ≡ g)) ⊎ Direct v y h
+put-direct v x g {y} {h} d =
+    ⊎-elim
+    (λ e. let t : (eqb y x ≡ true) × (eqb h g ≡ true) = simp and-eq-true-iff at e in inl (eqb-true y x (t .0), eqb-true h g (t .1)))
+    (λ e. inr (record { object = d .object; group = d .group; is-stored = e }))
+    (new-or-old (eqb y x && eqb h g) (v .stored y h) (d .is-stored))
+
+pub taken-direct : (v : View) (x g : ℕ) {y h : ℕ} → Direct (viewTaken v x g) y h → Direct v y h × ((y ≡ x) × (h ≡ g) → ⊥)
+taken-direct v x g {y} {h} d = go (eqb y x && eqb h g) refl (d .is-stored)
+  where
+    go : (t : Bool) → (eqb y x && eqb h g) ≡ t → (t ⇒ false ∥ v .stored y h) ≡ true → Direct v y h × ((y ≡ x) × (h ≡ g) → ⊥)
+    go true q e = absurd (false≢true e)
+    go false q e = (
+      record { object = d .object; group = d .group; is-stored = e },
+      λ w. false≢true (sym q ∙ rw (eq-eqb y x (w .0), eq-eqb h g (w .1))),
+    )
+
+pub made-direct : (v : View) (x s g : ℕ) {y h : ℕ} → Direct (viewMade v x s g) y h → ((y ≡ x) × (h ≡ g)) ⊎ Direct v y h
+made-direct v x s g {y} {h} d = go (ℕ-discrete y x)
+  where
+    go : Dec (y ≡ x) → ((y ≡ x) × (h ≡ g)) ⊎ Direct v y h
+    go (yes e) = inl (e, eqb-true h g (rw (eq-eqb y x e) at (d .is-stored)))
+    go (no n) =
+        let m : h ≡ x → ⊥ = none-in v x s g n (d .is-stored) in
+        inr (direct-map (viewMade v x s g) v (other-sort v x s g n) (other-sort v x s g m) (λ e. sym (other-stored v x s g n m) ∙ e) d)

@@ -8,6 +8,8 @@ pub mod Frames
 pub mod OneBit
 pub mod AsRead
 pub mod Sorts
+pub mod Carrying
+pub mod Appointing
 pub mod Chains
 pub mod Deciding
 pub mod Seeking

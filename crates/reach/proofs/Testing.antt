@@ -63,6 +63,15 @@ pub decides-not : {P : Type 0} (t : Bool) → Decides t P → Decides (not t) (P
 decides-not true d = record { sound = λ e. absurd (false≢true e); complete = λ n. absurd (n (d .sound refl)) }
 decides-not false d = record { sound = λ e. refuted d refl; complete = λ n. refl }
 
+-- What is read at j where i was written: the new there, and the old elsewhere.
+pub written-cases {ℓ} : {A : Type ℓ} (new old : A) (j i : ℕ)
+    → ((j ≡ i) × ((eqb j i ⇒ new ∥ old) ≡ new)) ⊎ ((j ≡ i → ⊥) × ((eqb j i ⇒ new ∥ old) ≡ old))
+written-cases {A = A} new old j i = go (eqb j i) (decides-eqb j i)
+  where
+    go : (t : Bool) → Decides t (j ≡ i) → ((j ≡ i) × ((t ⇒ new ∥ old) ≡ new)) ⊎ ((j ≡ i → ⊥) × ((t ⇒ new ∥ old) ≡ old))
+    go true d = inl (d .sound refl, refl)
+    go false d = inr (refuted d refl, refl)
+
 -- ---- Some number below a bound
 
 pub some-up : {n : ℕ} {P : ℕ → Type 0} → Some n P → Some (n + 1) P
