@@ -183,3 +183,38 @@ made-direct v x s g {y} {h} d = go (ℕ-discrete y x)
     go (no n) =
         let m : h ≡ x → ⊥ = none-in v x s g n (d .is-stored) in
         inr (direct-map (viewMade v x s g) v (other-sort v x s g n) (other-sort v x s g m) (λ e. sym (other-stored v x s g n m) ∙ e) d)
+
+-- ---- And what each change keeps of them
+
+pub direct-put : (v : View) (x g : ℕ) {y h : ℕ} → Direct v y h → Direct (viewPut v x g) y h
+direct-put v x g {y} {h} d = record { object = d .object; group = d .group; is-stored = still (eqb y x && eqb h g) (d .is-stored) }
+  where
+    still : (t : Bool) → v .stored y h ≡ true → (t ⇒ true ∥ v .stored y h) ≡ true
+    still true e = refl
+    still false e = e
+
+pub direct-new-put : (v : View) (x g : ℕ) → InUse v x → Group v g → Direct (viewPut v x g) x g
+direct-new-put v x g i j = record { object = i; group = j; is-stored = rw (eq-eqb x x refl, eq-eqb g g refl) }
+
+pub direct-taken : (v : View) (x g : ℕ) {y h : ℕ} → ((y ≡ x) × (h ≡ g) → ⊥) → Direct v y h → Direct (viewTaken v x g) y h
+direct-taken v x g {y} {h} n d =
+    record { object = d .object; group = d .group; is-stored = go (eqb y x) (eqb h g) refl refl }
+  where
+    go : (s t : Bool) → eqb y x ≡ s → eqb h g ≡ t → (s && t ⇒ false ∥ v .stored y h) ≡ true
+    go true true p q = absurd (n (eqb-true y x p, eqb-true h g q))
+    go true false p q = d .is-stored
+    go false t p q = d .is-stored
+
+pub direct-made : (v : View) (x s g : ℕ) → (InUse v x → ⊥) → {y h : ℕ} → Direct v y h → Direct (viewMade v x s g) y h
+direct-made v x s g free d =
+    let n = not-new v x s g free (d .object) in
+    let m = not-new v x s g free (group-in-use v _ (d .group)) in
+    direct-map v (viewMade v x s g) (sym (other-sort v x s g n)) (sym (other-sort v x s g m)) (λ e. other-stored v x s g n m ∙ e) d
+
+pub direct-new-made : (v : View) (x s g : ℕ) → (InUse v x → ⊥) → 0 < counted s → Group v g → Direct (viewMade v x s g) x g
+direct-new-made v x s g free c j =
+    record {
+      object = rw (eq-eqb x x refl) c;
+      group = other-sort v x s g (not-new v x s g free (group-in-use v g j)) ∙ j;
+      is-stored = rw (eq-eqb x x refl) (eq-eqb g g refl);
+    }

@@ -8,6 +8,7 @@ pub mod Frames
 pub mod OneBit
 pub mod AsRead
 pub mod Sorts
+pub mod Founding
 pub mod Carrying
 pub mod Appointing
 pub mod Chains

@@ -1,0 +1,2 @@
+-- The fields that every record begins with.
+pub mod Fields
