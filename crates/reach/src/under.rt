@@ -18,12 +18,13 @@ pub fn search(p: Policy, m: Masks, g: u8) -> u64
     if g >= 64 {
         return 0;
     }
+    let members = p.members;
     let mut found = (1u64 << g) & m.objects;
     let mut done: u64 = 0;
     let mut todo = found & m.groups;
     while todo != 0 {
         let h = u64::trailing_zeros(todo) as usize;
-        found |= p.members[h] & m.objects;
+        found |= members[h] & m.objects;
         done |= 1u64 << h;
         todo = found & m.groups & !done;
     }
