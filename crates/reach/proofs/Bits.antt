@@ -2,8 +2,8 @@
 -- law is one step of the library's laws on halves, by induction on the bit's number.
 use mathlib.Core.Path.{_≡_, refl, sym, ap, _∙_}
 use mathlib.Core.Logic.{_⊎_, inl, inr}
-use Prim.Native.Nat.{ℕ, zero, suc, _-_, _*_, _/_, _%_, _^_, _≤_, _<_, min, max, zero-le, suc-le-suc}
-use native.Mathlib.Nat.{pow-suc, div-one, div-eq-of-lt, lt-of-lt-of-le, le-of-suc-le-suc, not-suc-le-zero, one-mul}
+use Prim.Native.Nat.{ℕ, zero, suc, _+_, _-_, _*_, _/_, _%_, _^_, _≤_, _<_, min, max, zero-le, suc-le-suc}
+use native.Mathlib.Nat.{pow-suc, div-one, div-eq-of-lt, lt-of-lt-of-le, le-of-suc-le-suc, not-suc-le-zero, one-mul, mul-assoc}
 use native.Mathlib.Omega.{arith}
 use lib.Dec.{lit<}
 use lib.Arith.{digits-mod, lt-one, lt-of-le-ne}
@@ -74,6 +74,9 @@ bit-not (suc k) a (suc x) h l =
     ∙ ap (λ (n : ℕ). 1 - n) (sym (bit-suc a x))
 
 -- `1 << i` is 2 to the power i.
+pub one-shl-half : (i : ℕ) → i < 32 → (1 * 2 ^ i) % 2 ^ 32 ≡ 2 ^ i
+one-shl-half i h = shl-exact 1 i 32 (lit< tt) (omega arith) ∙ one-mul (2 ^ i)
+
 pub one-shl : (i : ℕ) → i < 64 → (1 * 2 ^ i) % 2 ^ 64 ≡ 2 ^ i
 one-shl i h = shl-exact 1 i 64 (lit< tt) (omega arith) ∙ one-mul (2 ^ i)
 
@@ -90,6 +93,38 @@ bit-one-only zero (suc x) e = absurd (bit-none x (sym (bit-suc 1 x) ∙ e))
 bit-one-only (suc i) zero e = absurd (omega (arith, pow-suc 2 i, sym (bit-at-zero (2 ^ suc i)) ∙ e))
 bit-one-only (suc i) (suc x) e =
     ap suc (bit-one-only i x (ap (λ (n : ℕ). bit n x) (sym (half-pow i)) ∙ sym (bit-suc (2 ^ suc i) x) ∙ e))
+
+-- Of a number with b above its lowest k bits, a has these.
+above : (b k : ℕ) → b * 2 ^ suc k ≡ b * 2 ^ k * 2
+above b k = ap (λ (n : ℕ). b * n) (pow-suc 2 k) ∙ sym (mul-assoc b (2 ^ k) 2)
+
+even-sum : (a n : ℕ) → (a + n * 2) % 2 ≡ a % 2
+even-sum a n = omega arith
+
+half-sum : (a n : ℕ) → (a + n * 2) / 2 ≡ a / 2 + n
+half-sum a n = omega arith
+
+bit-below : (k a b x : ℕ) → x < k → bit (a + b * 2 ^ k) x ≡ bit a x
+bit-below zero a b x l = absurd (not-suc-le-zero l)
+bit-below (suc k) a b zero l =
+    bit-at-zero _ ∙ ap (λ (n : ℕ). (a + n) % 2) (above b k) ∙ even-sum a (b * 2 ^ k) ∙ sym (bit-at-zero a)
+bit-below (suc k) a b (suc x) l =
+    bit-suc _ x
+    ∙ ap (λ (n : ℕ). bit n x) (ap (λ (n : ℕ). (a + n) / 2) (above b k) ∙ half-sum a (b * 2 ^ k))
+    ∙ bit-below k (a / 2) b x (le-of-suc-le-suc l)
+    ∙ sym (bit-suc a x)
+
+-- A word of two halves: the low half has its low bits, and the high half those from 32 up.
+pub bit-low-half : (a b x : ℕ) → x < 32 → bit (b * 2 ^ 32 + a) x ≡ bit a x
+bit-low-half a b x l = ap (λ (n : ℕ). bit n x) (omega arith) ∙ bit-below 32 a b x l
+
+pub bit-high-half : (a b x : ℕ) → a < 2 ^ 32 → 32 ≤ x → bit (b * 2 ^ 32 + a) x ≡ bit b (x - 32)
+unfolding bit
+bit-high-half a b x h l =
+    let s = b * 2 ^ 32 + a in
+    let e : s / 2 ^ 32 ≡ b = omega arith in
+    let f : x ≡ 32 + (x - 32) = omega arith in
+    ap (λ (n : ℕ). n % 2) (ap (λ (n : ℕ). s / 2 ^ n) f ∙ sym (shr-shr s 32 (x - 32)) ∙ ap (λ (n : ℕ). n / 2 ^ (x - 32)) e)
 
 -- `(s >> x) & 1` is bit x.
 pub low-bit : (s x : ℕ) → bitAnd (s / 2 ^ x) 1 ≡ bit s x

@@ -13,6 +13,9 @@ use Rattle.reach.specs.declared.Policy.{Policy}
 use Rattle.reach.specs.Tests.{_⇒_∥_, Decides}
 use Rattle.reach.specs.Tables.{counted, sort, view}
 use Rattle.reach.specs.Reach.{InUse, Group, User, Target}
+use Rattle.reach.specs.Words.{SetOf}
+use Rattle.reach.proofs.Chains.{in-use-below}
+use Rattle.reach.proofs.WordSets.{set-as}
 
 -- A known sort or kind counts as it is, and none counts as more than 3.
 pub counted-known : (n : ℕ) → n ≤ 3 → counted n ≡ n
@@ -51,6 +54,14 @@ decides-sort p x k l a b =
           let q : counted (getD (p .sorts) x 0) ≡ k = sym (sort-at p x l) ∙ e in
           eq-eqb _ _ (⊎-elim (λ z. absurd (omega (arith, z, q, a))) (λ w. sym (w .0) ∙ q) (counted-cases _));
     }
+
+-- The objects of a sort, by the stored bytes.
+pub sort-set : (p : Policy) (k : ℕ) {s : ℕ} → 0 < k → k ≤ 3 → SetOf s (λ x. (x < 64) × (getD (p .sorts) x 0 ≡ k)) → SetOf s (λ x. sort p x ≡ k)
+sort-set p k a b s =
+    set-as
+    s
+    (λ x w. decides-sort p x k (w .0) a b .sound (eq-eqb _ _ (w .1)))
+    (λ x e. let l = in-use-below p x (omega (arith, a, e)) in (l, eqb-true _ _ (decides-sort p x k l a b .complete e)))
 
 -- What is in use is a group, a user or a target.
 pub in-use-cases : (p : Policy) (x : ℕ) → InUse (view p) x → (Group (view p) x ⊎ User (view p) x) ⊎ Target (view p) x

@@ -3,7 +3,7 @@
 use mathlib.Core.Path.{_≡_, refl, sym, ap, _∙_, subst}
 use mathlib.Core.Bool.{Bool, true, false, not, true≢false, false≢true}
 use mathlib.Core.Logic.{_⊎_, inl, inr, ⊎-elim}
-use Prim.Native.Nat.{ℕ, _+_, _-_, _*_, _%_, _^_, _<_, min}
+use Prim.Native.Nat.{ℕ, _+_, _-_, _*_, _%_, _^_, _≤_, _<_, min}
 use native.Mathlib.Nat.{mod-lt, lt-of-le-of-lt, eq-or-lt-of-le, le-of-suc-le-suc, not-suc-le-zero}
 use native.Mathlib.Decide.{decLt}
 use native.Mathlib.Numerals.{add-one}
@@ -15,7 +15,7 @@ use lib.Count.{trailingZeros}
 use borrow.Author.Tests.{eqb-true, eqb-false, eq-eqb, not-true, not-false}
 use Rattle.reach.specs.Words.{bit, has, SetOf}
 use Rattle.reach.specs.Tests.{Some, Decides}
-use Rattle.reach.proofs.Bits.{bit-le, bit-two, bit-clash, bit-none, bit-high, bit-or, bit-and, bit-not, one-shl, bit-one, bit-one-only, lowest-bit}
+use Rattle.reach.proofs.Bits.{bit-le, bit-two, bit-clash, bit-none, bit-high, bit-or, bit-and, bit-not, one-shl, one-shl-half, bit-low-half, bit-high-half, bit-one, bit-one-only, lowest-bit}
 
 -- A word is the set of its bits.
 pub set-bits : (s : ℕ) → s < 2 ^ 64 → SetOf s (λ x. bit s x ≡ 1)
@@ -131,6 +131,48 @@ set-one i h =
       only = λ x e. bit-one-only i x (ap (λ (n : ℕ). bit n x) (sym (one-shl i h)) ∙ e);
       all = λ x e. ap (λ (n : ℕ). bit n x) (one-shl i h) ∙ ap (bit (2 ^ i)) e ∙ bit-one i;
     }
+
+pub set-one-half : (i : ℕ) → i < 32 → SetOf ((1 * 2 ^ i) % 2 ^ 32) (λ x. x ≡ i)
+set-one-half i h = let l : i < 64 = omega arith in set-at (one-shl-half i h ∙ sym (one-shl i l)) (set-one i l)
+
+-- A word of two halves.
+pub set-joined : (a b : ℕ) → a < 2 ^ 32 → b < 2 ^ 32
+    → SetOf (b * 2 ^ 32 + a) (λ x. (bit a x ≡ 1) ⊎ ((32 ≤ x) × (bit b (x - 32) ≡ 1)))
+set-joined a b h k =
+    record {
+      word = omega arith;
+      only = λ x e.
+          elim (decLt x 32) [
+            | yes l ↦ inl (sym (bit-low-half a b x l) ∙ e)
+            | no n ↦ let l : 32 ≤ x = omega arith in inr (l, sym (bit-high-half a b x h l) ∙ e)
+          ];
+      all = λ x w.
+          ⊎-elim
+          (λ e.
+          elim (decLt x 32) [
+            | yes l ↦ bit-low-half a b x l ∙ e
+            | no n ↦ absurd (bit-clash a x (bit-high 32 a x h (omega arith)) e)
+          ])
+          (λ v. bit-high-half a b x h (v .0) ∙ v .1)
+          w;
+    }
+
+-- The set of the numbers below 64 that P holds of, by that of the numbers below 32 and that of those from 32 up.
+pub set-halves : {P : ℕ → Type 0} {a b s : ℕ} → SetOf s (λ x. (bit a x ≡ 1) ⊎ ((32 ≤ x) × (bit b (x - 32) ≡ 1)))
+    → SetOf a (λ x. (x < 32) × P (0 + x)) → SetOf b (λ x. (x < 32) × P (32 + x)) → SetOf s (λ x. (x < 64) × P x)
+set-halves {P} j p q =
+    set-as
+    j
+    (λ x w.
+    ⊎-elim
+    (λ e. let v = p .only x e in (omega (arith, v .0), subst P (omega arith) (v .1)))
+    (λ u. let v = q .only (x - 32) (u .1) in (omega (arith, v .0, u .0), subst P (omega (arith, u .0)) (v .1)))
+    w)
+    (λ x w.
+    elim (decLt x 32) [
+      | yes l ↦ inl (p .all x (l, subst P (omega arith) (w .1)))
+      | no n ↦ let l : 32 ≤ x = omega arith in inr (l, q .all (x - 32) (omega (arith, w .0), subst P (omega arith) (w .1)))
+    ])
 
 -- A number below i + 1 is i or below i.
 pub below-next : (x i : ℕ) → x < i + 1 → (x ≡ i) ⊎ (x < i)

@@ -11,6 +11,7 @@ impl Policy {
         requires { ⌜ MasksOf self m ⌝ }
         ensures { λ r. ⌜ ClosureOf self r ⌝ }
     {
+        let members = self.members;
         let mut rows = [0u64; 64];
         let mut ready: u64 = 0;
         let mut n: u8 = 64;
@@ -28,7 +29,7 @@ impl Policy {
                     done |= row;
                 } else {
                     let h = u64::trailing_zeros(todo) as usize;
-                    found |= self.members[h] & m.objects;
+                    found |= members[h] & m.objects;
                     done |= 1u64 << h;
                 }
                 todo = found & m.groups & !done;

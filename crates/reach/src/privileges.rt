@@ -19,7 +19,8 @@ fn held_by(p: Policy, m: Masks, kind: u8, u: u8, i: usize) -> u64
     requires { ⌜ MasksOf p m × (i < 32) ⌝ }
     ensures { λ r. ⌜ SetOf r (λ x. HoldsBy (view p) kind u x i) ⌝ }
 {
-    let w = p.appointments[i];
+    let appointments = p.appointments;
+    let w = appointments[i];
     if w.kind != kind {
         return 0;
     }
@@ -34,7 +35,8 @@ fn owned_by(p: Policy, m: Masks, i: usize) -> u64
     requires { ⌜ MasksOf p m × (i < 32) ⌝ }
     ensures { λ r. ⌜ SetOf r (λ x. User (view p) (appointment p i .holder) × HoldsBy (view p) owner (appointment p i .holder) x i) ⌝ }
 {
-    let w = p.appointments[i];
+    let appointments = p.appointments;
+    let w = appointments[i];
     if !has(m.users, w.holder) {
         return 0;
     }
@@ -46,7 +48,8 @@ fn administered_by(p: Policy, m: Masks, u: u8, a: u8, i: usize) -> u64
     requires { ⌜ MasksOf p m × (i < 32) ⌝ }
     ensures { λ r. ⌜ SetOf r (λ b. AdministersBy (view p) u a b i) ⌝ }
 {
-    let w = p.appointments[i];
+    let appointments = p.appointments;
+    let w = appointments[i];
     if w.kind != 3 {
         return 0;
     }
@@ -64,7 +67,8 @@ fn permitted_by(p: Policy, m: Masks, u: u8, k: u8, i: usize) -> u64
     requires { ⌜ MasksOf p m × (i < 64) ⌝ }
     ensures { λ r. ⌜ SetOf r (λ x. PermitsBy (view p) u k x i) ⌝ }
 {
-    let rule = p.rules[i];
+    let rules = p.rules;
+    let rule = rules[i];
     if !rule.used {
         return 0;
     }

@@ -8,8 +8,8 @@ use Rattle.reach.proofs.privileges.administered_by.Tie as tie
 mul-w : tie.Need-mul-w
 mul-w c = search needs
 
-element-copy-out-w : tie.Need-element-copy-out-w
-element-copy-out-w c = search needs
+array-copy-out-w : tie.Need-array-copy-out-w
+array-copy-out-w c = search needs
 
 returns : tie.Need-returns
 unfolding appointment
@@ -51,7 +51,7 @@ administered-by-spec =
     tie.close
     (tie.spec
     mul-w
-    element-copy-out-w
+    array-copy-out-w
     returns
     returns-2
     search-requires

@@ -8,8 +8,8 @@ use Rattle.reach.proofs.privileges.held_by.Tie as tie
 mul-w : tie.Need-mul-w
 mul-w c = search needs
 
-element-copy-out-w : tie.Need-element-copy-out-w
-element-copy-out-w c = search needs
+array-copy-out-w : tie.Need-array-copy-out-w
+array-copy-out-w c = search needs
 
 returns : tie.Need-returns
 unfolding appointment
@@ -28,4 +28,4 @@ returns-3 c = set-as (c .search .ensures) (λ x r. record { is-kind = c .before 
 
 pub held-by-spec : {M : Type 1} → statement M
 held-by-spec =
-    tie.close (tie.spec mul-w element-copy-out-w returns returns-2 search-requires returns-3)
+    tie.close (tie.spec mul-w array-copy-out-w returns returns-2 search-requires returns-3)

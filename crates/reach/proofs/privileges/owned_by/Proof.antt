@@ -8,23 +8,23 @@ use Rattle.reach.proofs.privileges.owned_by.Tie as tie
 mul-w : tie.Need-mul-w
 mul-w c = search needs
 
-element-copy-out-w : tie.Need-element-copy-out-w
-element-copy-out-w c = search needs
+array-copy-out-w : tie.Need-array-copy-out-w
+array-copy-out-w c = search needs
 
 has-requires : tie.Need-has-requires
 has-requires c κs = search needs
 
 returns : tie.Need-returns
 unfolding appointment
-returns c = set-none (λ x w. set-outside _ (c .before .has .ensures) (c .if1 .taken) (c .before .before .before .pre .0 .users) (w .0))
+returns c = set-none (λ x w. set-outside _ (c .before .has .ensures) (c .if1 .taken) (c .before .before .before .before .pre .0 .users) (w .0))
 
 held-by-requires : tie.Need-held-by-requires
 held-by-requires c κs = search needs
 
 returns-2 : tie.Need-returns-2
 unfolding appointment
-returns-2 c = set-as (c .held-by .ensures) (λ x h. (set-inside _ (c .before .before .has .ensures) (c .before .if1 .left) (c .before .before .before .before .pre .0 .users), h)) (λ x w. w .1)
+returns-2 c = set-as (c .held-by .ensures) (λ x h. (set-inside _ (c .before .before .has .ensures) (c .before .if1 .left) (c .before .before .before .before .before .pre .0 .users), h)) (λ x w. w .1)
 
 pub owned-by-spec : {M : Type 1} → statement M
 owned-by-spec =
-    tie.close (tie.spec mul-w element-copy-out-w has-requires returns held-by-requires returns-2)
+    tie.close (tie.spec mul-w array-copy-out-w has-requires returns held-by-requires returns-2)

@@ -13,8 +13,8 @@ use Rattle.reach.proofs.privileges.permitted_by.Tie as tie
 mul-rule : tie.Need-mul-rule
 mul-rule c = search needs
 
-element-copy-out-rule : tie.Need-element-copy-out-rule
-element-copy-out-rule c = search needs
+array-copy-out-rule : tie.Need-array-copy-out-rule
+array-copy-out-rule c = search needs
 
 returns : tie.Need-returns
 unfolding rule
@@ -62,7 +62,7 @@ permitted-by-spec =
     tie.close
     (tie.spec
     mul-rule
-    element-copy-out-rule
+    array-copy-out-rule
     returns
     cast-has
     has-requires
