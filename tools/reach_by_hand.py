@@ -57,6 +57,18 @@ def script():
     make(11, GROUP, 0)
     put(10, 11)                             # 10 is empty: does not count
     dismiss(4); withdraw(3)
+    put(7, 6)                               # in gear, which is no group: does not count
+    put(2, 12); put(12, 3)                  # stored for an empty number ..
+    make(12, GROUP, 9)                      # .. and cleared, on both sides, when it is made
+    appoint(7, ADMINISTRATOR, 8, 2, 9)      # A of this and B of place 2 make no pair
+    grant(41, 2, 7, 6)                      # U of this and T of place 0 permit nothing
+    grant(5, 2, 6, 32); withdraw(5)         # the rule is gone again
+    take(11, 0)                             # 11 is in nothing that is owned: an orphan
+    make(10, 4, 0)                          # the first unknown sort
+    grant(0, 9, 9, 2)                       # place 0 permits, below place 1
+    appoint(31, MANAGER, 2, 9, 3)           # the last place, and a B that is not read
+    make(1, MEMBER, 12); put(12, 0)         # 1 anew: the founder's number in another group
+    take(7, 3)                              # a target that nobody owns
 
 
 def report():
@@ -82,17 +94,17 @@ def report():
     def line(head, items):
         return " ".join([head + ":"] + [str(item) for item in items])
 
-    for g in [*range(12), 63, 64]:
+    for g in [*range(13), 63, 64]:
         yield line(f"under {g}", sorted(x for x, h in under if h == g))
-    for u in range(12):
+    for u in range(13):
         yield line(f"owns {u}", sorted(x for v, x in owns if v == u))
         yield line(f"manages {u}", sorted(x for v, x in manages if v == u))
-    for u in range(12):
-        for a in range(12):
+    for u in range(13):
+        for a in range(13):
             seconds = sorted(y for v, x, y in administers if (v, x) == (u, a))
             if seconds:
                 yield line(f"administers {u} {a}", seconds)
-    for u in range(12):
+    for u in range(13):
         for k in range(9):
             found = sorted((x, place) for v, j, x, place in permits if (v, j) == (u, k))
             lowest = dict(reversed(found))  # of several places the lowest comes last and stays

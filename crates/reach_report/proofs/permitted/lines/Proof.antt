@@ -1,0 +1,34 @@
+-- `lines` is safe and ends: u goes up to 13, and nothing has to hold from turn to turn.
+use Prim.Native.Nat.{_-_}
+use borrow.Author.Needs.{needs}
+use Rattle.reach_report.proofs.permitted.lines.Statement.{statement}
+use Rattle.reach_report.proofs.permitted.lines.Tie as tie
+
+abbrev Inv-loop : tie.InvT-loop
+Inv-loop p u₀ u = Unit {0}
+
+abbrev μ-loop : tie.MeasureT-loop
+μ-loop p u₀ u = 13 - u
+
+loop-holds : tie.Need-loop-holds Inv-loop μ-loop
+loop-holds c = tt
+
+lines-of-requires : tie.Need-lines-of-requires Inv-loop μ-loop
+lines-of-requires c κs = search needs
+
+add-u : tie.Need-add-u Inv-loop μ-loop
+add-u c = search needs
+
+loop-less : tie.Need-loop-less Inv-loop μ-loop
+loop-less c = search needs
+
+loop-again : tie.Need-loop-again Inv-loop μ-loop
+loop-again c = tt
+
+returns : tie.Need-returns Inv-loop μ-loop
+returns c = tt
+
+pub lines-spec : {M : Type 1} → statement M
+lines-spec =
+    tie.close
+    (tie.spec Inv-loop μ-loop loop-holds lines-of-requires add-u loop-less loop-again returns)
