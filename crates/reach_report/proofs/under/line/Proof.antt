@@ -16,8 +16,14 @@ slice-aggregate-head c = search needs
 head-requires : tie.Need-head-requires Inv-loop μ-loop
 head-requires c κs = search needs
 
+row-requires : tie.Need-row-requires Inv-loop μ-loop
+row-requires c κs = search needs
+
 under-set-requires : tie.Need-under-set-requires Inv-loop μ-loop
 under-set-requires c κs = search needs
+
+doubt-requires : tie.Need-doubt-requires Inv-loop μ-loop
+doubt-requires c κs = search needs
 
 loop-holds : tie.Need-loop-holds Inv-loop μ-loop
 loop-holds c = tt
@@ -57,7 +63,9 @@ line-spec =
     μ-loop
     slice-aggregate-head
     head-requires
+    row-requires
     under-set-requires
+    doubt-requires
     loop-holds
     under-requires
     direct-requires
