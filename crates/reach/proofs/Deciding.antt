@@ -1,7 +1,7 @@
 -- The tests of the privileges decide them, for every policy. Each law has the shape of its definition.
 use mathlib.Core.Path.{_≡_, refl, sym, _∙_, subst}
 use mathlib.Core.Bool.{Bool, true, false, not, _&&_, true≢false, and-eq-true-iff}
-use mathlib.Core.Logic.{⊎-elim}
+use mathlib.Core.Logic.{_⊎_, inl, inr, ⊎-elim}
 use Prim.Native.Nat.{ℕ, _-_, _^_, _<_}
 use native.Mathlib.Omega.{arith}
 use lib.Bits.{bitAnd}
@@ -9,11 +9,11 @@ use lib.Dec.{eqb, ltb}
 use Rattle.reach.specs.declared.Policy.{Policy}
 use Rattle.reach.specs.declared.Place.the-variants.{At, Nothing}
 use Rattle.reach.specs.Words.{bit, has, SetOf}
-use Rattle.reach.specs.Tests.{some, Some, Decides}
+use Rattle.reach.specs.Tests.{some, Some, Decides, _⇒_∥_, lowest}
 use Rattle.reach.specs.Tables.{sort, appointment, rule, view}
 use Rattle.reach.specs.Reach.{InUse, User, Target, isUser, isTarget}
 use Rattle.reach.specs.Privileges.{HoldsBy, Holds, AdministersBy, Administers, PermitsBy, Permitted, Orphan, owner, administrator, holdsBy, holds, administersBy, administers, permitsBy, askable, permitted, permitting, orphaned}
-use Rattle.reach.proofs.Testing.{decides-as, decides-same, decides-and, decides-not, decides-some, decides-eqb, decides-ltb, decides-true, some-map, lowest-none, lowest-found, LowestAt, lowest-cases}
+use Rattle.reach.proofs.Testing.{decides-as, decides-same, decides-and, decides-not, decides-some, decides-eqb, decides-ltb, decides-true, some-map, lowest-none, lowest-found, LowestAt, lowest-cases, fails, some-found}
 use Rattle.reach.proofs.WordSets.{set-mask, set-not, decides-nonempty}
 use Rattle.reach.proofs.Chains.{in-use-below, decides-in-use, under-decides}
 
@@ -165,3 +165,21 @@ module _ (p : Policy) (u k x : ℕ) where
         at = (rw (a .0) (lowest-found 64 (permitsBy p u k x) (w .place) (f .low) (f .none) (f .here)), f);
       })
       (lowest-cases 64 (permitsBy p u k x))
+
+  -- The answer at a place is a permission, and none is none.
+  pub permitted-nothing : permitting p u k x ≡ Nothing → permitted p u k x ≡ false
+  permitted-nothing e =
+      fails (permitted p u k x) (decides-true _)
+      (λ f. let w = permitted-lowest f in let q = w .at .0 in let z : _≡_ {A = ℕ} 0 1 = cc in omega arith)
+
+  pub permitted-at : (i : ℕ) → permitting p u k x ≡ At i → permitted p u k x ≡ true
+  unfolding permitted permitting
+  permitted-at i e = go (askable p u k x) e (lowest-cases 64 (permitsBy p u k x))
+    where
+      go : (t : Bool) → (t ⇒ lowest 64 (permitsBy p u k x) ∥ Nothing) ≡ At i
+          → (some 64 (permitsBy p u k x) ≡ false) ⊎ Some 64 (LowestAt 64 (permitsBy p u k x))
+          → (t && some 64 (permitsBy p u k x)) ≡ true
+      go true f (inl n) =
+          let q = lowest-none 64 (permitsBy p u k x) n in absurd (let z : _≡_ {A = ℕ} 0 1 = cc in omega arith)
+      go true f (inr w) = some-found 64 (permitsBy p u k x) (w .place) (w .low) (w .at .here)
+      go false f c = absurd (let z : _≡_ {A = ℕ} 0 1 = cc in omega arith)
