@@ -1,6 +1,26 @@
-// Records in bytes: the fields that every record begins with.
+// Records in bytes: the fields that every record begins with, and the reader that finds one record after the other.
+mod reading;
+
+pub use reading::read_at;
 ghost use mathlib.Core.Path.{_≡_};
 ghost use Rattle.frame.specs.Fields.{byte, littleEndian, lengthField, kindField};
+
+// What stands at a position of bytes: a whole record, with the place after it; a torn place; or the end.
+pub enum Step {
+    Record {
+        start: usize,
+        length: usize,
+        next: usize,
+    },
+    Torn,
+    End,
+}
+
+// Lent bytes and a position in them.
+pub struct Reader<'a> {
+    pub bytes: &'a [u8],
+    pub at: usize,
+}
 
 // Byte i of a record; past its end 0.
 pub fn byte(b: &[u8], i: usize) -> u8

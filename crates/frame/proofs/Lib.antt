@@ -1,0 +1,5 @@
+-- The laws of the crate, each file under its subject. A caller cites them, and opens no definition of specs/.
+pub mod Steps
+pub mod Records
+-- What the walks of `Reader` share.
+mod TakenApart

@@ -1,0 +1,32 @@
+-- Each arm is given which step `step_at` found, and its contract says that it is the one at the position.
+use mathlib.Core.Path.{sym, ap, _∙_}
+use borrow.Author.Needs.{needs}
+use Rattle.frame.specs.Reading.{placeAfter}
+use Rattle.frame.proofs.reading.place_after.Statement.{statement}
+use Rattle.frame.proofs.reading.place_after.Tie as tie
+
+step-at-requires : tie.Need-step-at-requires
+step-at-requires c κs = search needs
+
+enum-known-next : tie.Need-enum-known-next
+enum-known-next c = search needs
+
+enum-told : tie.Need-enum-told
+enum-told c = search needs
+
+enum-told-2 : tie.Need-enum-told-2
+enum-told-2 c = search needs
+
+returns : tie.Need-returns
+returns c = ap (placeAfter _) (sym (c .before .next .given .1) ∙ c .before .before .before .step-at .ensures)
+
+returns-2 : tie.Need-returns-2
+returns-2 c = ap (placeAfter _) (sym (c .enum-told .given .1) ∙ c .before .before .step-at .ensures)
+
+returns-3 : tie.Need-returns-3
+returns-3 c = ap (placeAfter _) (sym (c .enum-told2 .given .1) ∙ c .before .before .step-at .ensures)
+
+pub place-after-spec : {M : Type 1} → statement M
+place-after-spec =
+    tie.close
+    (tie.spec step-at-requires enum-known-next enum-told enum-told-2 returns returns-2 returns-3)
