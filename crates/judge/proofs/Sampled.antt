@@ -17,7 +17,7 @@ use Rattle.judge.specs.Doing.{after}
 use Rattle.judge.specs.Gains.{gives, handsOver}
 use Rattle.judge.specs.Refusals.{torn, unknown, misfit, stranger, offTheSheet, absent, wrongSort, alreadySo, noAuthority, ownGain, handOver, orphan}
 use Rattle.judge.specs.Judging.{codeOf, citedOf, done, verdictOn, verdict, judge}
-use Rattle.judge.specs.Sample.{records, expected, further, furtherExpected, traps, trapsExpected}
+use Rattle.judge.specs.Sample.{records, expected, further, furtherExpected, traps, trapsExpected, rows, rowsExpected}
 
 -- Code and cited of an answer.
 pub line : Answer → ℕ × ℕ
@@ -45,3 +45,8 @@ sample-further = refl
 pub sample-traps : lines initial (records ++ traps) ≡ expected ++ trapsExpected
 unfolding lines initial
 sample-traps = refl
+
+-- The rows of the table of refusals, after the sample.
+pub sample-rows : lines initial (records ++ rows) ≡ expected ++ rowsExpected
+unfolding lines initial
+sample-rows = refl

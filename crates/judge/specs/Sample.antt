@@ -104,3 +104,90 @@ traps =
 abbrev pub trapsExpected : List (ℕ × ℕ)
 trapsExpected =
     no 9 ∷ ok ∷ no 10 ∷ ok ∷ ok ∷ (0, 0) ∷ ok ∷ ok ∷ no 9 ∷ ok ∷ ok ∷ ok ∷ ok ∷ ok ∷ no 9 ∷ ok ∷ no 9 ∷ ok ∷ (0, 0) ∷ []
+
+-- The rows of the table of refusals, each tried where a later row would apply too, and the requests that undo, done.
+abbrev pub rows : List (List ℕ)
+rows =
+    -- Torn: no bytes, three bytes, one too few, one too many.
+    [] ∷
+    (7 ∷ 0 ∷ 8 ∷ []) ∷
+    (8 ∷ 0 ∷ 8 ∷ 0 ∷ 7 ∷ 6 ∷ 2 ∷ []) ∷
+    (6 ∷ 0 ∷ 8 ∷ 0 ∷ 7 ∷ 6 ∷ 2 ∷ []) ∷
+    -- Unknown: kinds 0, 9 and 0x0101.
+    (6 ∷ 0 ∷ 0 ∷ 0 ∷ 1 ∷ 0 ∷ []) ∷
+    (6 ∷ 0 ∷ 9 ∷ 0 ∷ 1 ∷ 0 ∷ []) ∷
+    (8 ∷ 0 ∷ 1 ∷ 1 ∷ 1 ∷ 8 ∷ 2 ∷ 0 ∷ []) ∷
+    -- Misfit: a USE without its bytes, a MAKE with a byte too many.
+    (4 ∷ 0 ∷ 8 ∷ 0 ∷ []) ∷
+    (9 ∷ 0 ∷ 1 ∷ 0 ∷ 1 ∷ 8 ∷ 2 ∷ 0 ∷ 0 ∷ []) ∷
+    -- Stranger: a number past the table, though its place is too; an empty object; a target.
+    MAKE 64 64 2 0 ∷
+    MAKE 8 8 2 0 ∷
+    USE 6 6 2 ∷
+    -- Off the sheet: each number outside its table, and each value that is none.
+    MAKE 1 8 0 0 ∷
+    MAKE 1 8 4 0 ∷
+    MAKE 1 8 2 64 ∷
+    PUT 1 64 9 ∷
+    TAKE 1 3 64 ∷
+    APPOINT 1 3 0 3 4 0 ∷
+    APPOINT 1 3 4 3 4 0 ∷
+    APPOINT 1 3 2 3 4 5 ∷
+    APPOINT 2 3 3 3 4 64 ∷
+    APPOINT 1 3 2 64 4 0 ∷
+    DISMISS 1 32 ∷
+    GRANT 3 64 4 5 1 ∷
+    GRANT 3 1 4 5 0 ∷
+    WITHDRAW 3 64 ∷
+    USE 7 6 8 ∷
+    -- Absent: MAKE into its own empty place; each empty object; each empty place; before a wrong sort.
+    MAKE 1 8 1 8 ∷
+    PUT 1 8 4 ∷
+    TAKE 1 8 4 ∷
+    APPOINT 1 3 2 8 4 0 ∷
+    APPOINT 2 3 3 3 4 8 ∷
+    DISMISS 1 3 ∷
+    GRANT 3 1 6 8 1 ∷
+    WITHDRAW 3 1 ∷
+    USE 7 8 2 ∷
+    -- Wrong sort: before a place in use.
+    MAKE 1 2 2 6 ∷
+    PUT 1 3 7 ∷
+    TAKE 1 3 7 ∷
+    APPOINT 1 1 2 4 4 0 ∷
+    APPOINT 2 3 3 3 4 6 ∷
+    GRANT 3 0 4 6 1 ∷
+    USE 7 5 2 ∷
+    -- Already so: before the authority of user 7, who has none.
+    MAKE 7 2 2 0 ∷
+    PUT 7 3 4 ∷
+    TAKE 7 3 5 ∷
+    APPOINT 7 1 2 3 4 0 ∷
+    GRANT 7 0 4 5 1 ∷
+    -- No authority: nobody gets it by the change itself.
+    MAKE 7 8 2 0 ∷
+    PUT 7 2 4 ∷
+    TAKE 7 3 4 ∷
+    APPOINT 2 3 2 3 4 0 ∷
+    APPOINT 7 3 1 7 5 0 ∷
+    DISMISS 1 2 ∷
+    GRANT 7 1 4 5 1 ∷
+    WITHDRAW 7 0 ∷
+    USE 2 6 2 ∷
+    -- A TAKE, a WITHDRAW and two DISMISS that are done, and what they leave.
+    TAKE 2 3 4 ∷
+    USE 3 6 2 ∷
+    WITHDRAW 3 0 ∷
+    USE 7 6 2 ∷
+    DISMISS 2 2 ∷
+    DISMISS 1 1 ∷
+    DISMISS 1 1 ∷
+    GRANT 3 0 4 5 6 ∷
+    []
+
+abbrev pub rowsExpected : List (ℕ × ℕ)
+rowsExpected =
+    no 1 ∷ no 1 ∷ no 1 ∷ no 1 ∷ no 2 ∷ no 2 ∷ no 2 ∷ no 3 ∷ no 3 ∷ no 4 ∷ no 4 ∷ no 4 ∷ no 5 ∷ no 5 ∷ no 5 ∷ no 5 ∷ no 5 ∷ no 5 ∷
+    no 5 ∷ no 5 ∷ no 5 ∷ no 5 ∷ no 5 ∷ no 5 ∷ no 5 ∷ no 5 ∷ no 5 ∷ no 6 ∷ no 6 ∷ no 6 ∷ no 6 ∷ no 6 ∷ no 6 ∷ no 6 ∷ no 6 ∷ no 6 ∷
+    no 7 ∷ no 7 ∷ no 7 ∷ no 7 ∷ no 7 ∷ no 7 ∷ no 7 ∷ no 8 ∷ no 8 ∷ no 8 ∷ no 8 ∷ no 8 ∷ no 9 ∷ no 9 ∷ no 9 ∷ no 9 ∷ no 9 ∷ no 9 ∷
+    no 9 ∷ no 9 ∷ no 9 ∷ ok ∷ no 9 ∷ ok ∷ no 9 ∷ ok ∷ ok ∷ no 6 ∷ no 9 ∷ []
