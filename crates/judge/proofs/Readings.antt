@@ -1,5 +1,5 @@
--- Two readings of the refusal table that follow from it: when APPOINT is own gain (R11), and that a hand-over is of what the sender does
--- not own (R12). From what APPOINT and PUT change of reach and privileges.
+-- Two readings of the refusal table that follow from it (D23): when APPOINT is own gain, and that a hand-over is of what the sender does
+-- not own. From what APPOINT and PUT change of reach and privileges.
 use mathlib.Core.Path.{_≡_, sym, subst}
 use mathlib.Core.Logic.{_⊎_, inl, inr, ⊎-elim}
 use Prim.Native.Nat.{ℕ, _<_}
@@ -39,7 +39,7 @@ administers-under l m h =
           (h .by);
     }
 
--- ---- R11
+-- ---- APPOINT as own gain
 
 -- The appointment is his own, and he lacked what it gives.
 pub record OwnAppointment (v : View) (u : ℕ) (w : Appointment) : Type 0 where
@@ -137,7 +137,7 @@ pub appoint-own-gain : (v : View) (u i : ℕ) (w : Appointment) → i < 32 → U
 appoint-own-gain v u i w l user ga gb may =
     record { only = appoint-gains v u i w may; all = gains-appoint v u i w l user ga gb }
 
--- ---- R12
+-- ---- Hand-over
 
 -- What PUT hands over is under the object put, or was held before.
 pub hand-over-not-owned : (v : View) (u x g : ℕ) → HandsOver v (viewPut v x g) u → Owns v u x → ⊥

@@ -9,12 +9,33 @@ use Rattle.reach.specs.Tables.{View, Sized, view, initial}
 use Rattle.reach.specs.Reach.{User}
 use Rattle.reach.proofs.AsRead.{sized-initial}
 use Rattle.reach.proofs.Founding.{initial-user, initial-appointment, initial-direct, initial-rule, initial-owns}
-use Rattle.judge.specs.Allowing.{Gives, HandsOver, Owned}
+use Rattle.judge.specs.Records.{sender}
+use Rattle.reach.specs.Privileges.{Owns, Manages}
+use mathlib.Core.Logic.{_⊎_, ⊎-elim}
+use Prim.Native.Nat.{ℕ, suc, _<_}
+use Rattle.judge.specs.Allowing.{Gives, HandsOver, Owned, viewAfter}
 use Rattle.judge.proofs.Steps.{Holders, step-owned, step-holders, step-no-gain, step-no-hand}
-use Rattle.list.specs.Runs.{Bytes, run, before, end}
+use Rattle.list.specs.Runs.{Bytes, run, before, end, recordAt}
 use Rattle.list.specs.Demand.{Demand3, FoundingDemand3}
-use Rattle.list.proofs.Positions.{kept, as-allowed}
+use Rattle.list.proofs.Positions.{Next, did, turned-away, next, kept, as-allowed}
 use Rattle.list.proofs.Tracing.{permission-line}
+
+-- Whoever sent request i, accepted or refused, handed nothing over.
+handed-over-none : (start : Policy) (list : List Bytes) (z : Sized start) → Holders (view start) → (i : ℕ) → Next start list z i
+    → i < end start list → HandsOver (before start list i) (before start list (suc i)) (sender (recordAt start list i)) → ⊥
+handed-over-none start list z hs i (did u q d ok e) h =
+    subst
+    (λ (n : View). HandsOver (before start list i) n (sender (recordAt start list i)) → ⊥)
+    (sym e)
+    (subst
+    (λ (w : ℕ). HandsOver (before start list i) (viewAfter (before start list i) q) w → ⊥)
+    (sym (d .by))
+    (step-no-hand (before start list i) u q ok (kept start list z Holders step-holders hs i (le-of-lt h))))
+handed-over-none start list z hs i (turned-away n e) h =
+    subst (λ (n : View). HandsOver (before start list i) n (sender (recordAt start list i)) → ⊥) (sym e) (λ o. nothing (o .comes .gain))
+  where
+    nothing : {v : View} {u x : ℕ} → (Owns v u x × (Owns v u x → ⊥)) ⊎ (Manages v u x × (Manages v u x → ⊥)) → ⊥
+    nothing g = ⊎-elim (λ a. a .1 (a .0)) (λ a. a .1 (a .0)) g
 
 -- The general theorem: what stood at the start is where lines end.
 pub demand3 : (start : Policy) → Sized start → Owned (view start) → Holders (view start) → (list : List Bytes) → Demand3 start list
@@ -25,12 +46,7 @@ demand3 start z own hs list =
       no-own-gain = λ i u q d.
           let h = as-allowed start list z d in
           subst (λ (n : View). Gives (before start list i) n u → ⊥) (sym (h .1)) (step-no-gain (before start list i) u q (h .0));
-      no-hand-over = λ i u q d.
-          let h = as-allowed start list z d in
-          subst
-          (λ (n : View). HandsOver (before start list i) n u → ⊥)
-          (sym (h .1))
-          (step-no-hand (before start list i) u q (h .0) (kept start list z Holders step-holders hs i (le-of-lt (d .within))));
+      no-hand-over = λ i h. handed-over-none start list z hs i (next start list z i h) h;
     }
 
 -- DEMAND 3, for every list of byte strings from the founding.

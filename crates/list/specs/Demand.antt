@@ -1,15 +1,17 @@
--- Demand 3. [01:line.9] "Demand 3 is one claim about the whole list, its four parts together, and not a claim for each kind of request."
+-- Demand 3, each part under its words. That lines are tight, so that what has a line stands, is proved beside it (proofs/Holding).
+-- [01:line.9] "Demand 3 is one claim about the whole list, its four parts together, and not a claim for each kind of request."
 use mathlib.Core.Path.{_≡_}
 use mathlib.Core.Bool.{true}
 use mathlib.Core.List.{List}
-use Prim.Native.Nat.{ℕ, suc}
+use Prim.Native.Nat.{ℕ, suc, _<_}
 use Rattle.reach.specs.declared.Policy.{Policy}
 use Rattle.reach.specs.Tables.{initial}
 use Rattle.reach.specs.Reach.{Direct}
 use Rattle.reach.specs.Privileges.{owner, Permitted}
 use Rattle.judge.specs.declared.Request.{Request}
+use Rattle.judge.specs.Records.{sender}
 use Rattle.judge.specs.Allowing.{Gives, HandsOver, Owned, Standing}
-use Rattle.list.specs.Runs.{Bytes, before, end, Done}
+use Rattle.list.specs.Runs.{Bytes, before, end, recordAt, Done}
 use Rattle.list.specs.Lines.{PermissionLine}
 
 -- For a list from any start, with what stood there as the ends of lines. [01:line.10] "In it an object is one in use." [01:line.11] "A
@@ -23,7 +25,8 @@ pub record Demand3 (start : Policy) (list : List Bytes) : Type 0 where
   -- "no accepted request gave its own sender a holding he lacked over things already there"
   pub no-own-gain : (i u : ℕ) (q : Request) → Done start list i u q → Gives (before start list i) (before start list (suc i)) u → ⊥
   -- "nobody came to own or manage a thing already there by the request of one who didn't own it"
-  pub no-hand-over : (i u : ℕ) (q : Request) → Done start list i u q → HandsOver (before start list i) (before start list (suc i)) u → ⊥
+  pub no-hand-over : (i : ℕ) → i < end start list
+      → HandsOver (before start list i) (before start list (suc i)) (sender (recordAt start list i)) → ⊥
 
 -- For a list from the founding: a line ends at warrant 0 of the founding, or at its one membership; no rule stood there.
 pub record FoundingDemand3 (list : List Bytes) : Type 0 where
