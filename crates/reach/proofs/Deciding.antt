@@ -14,7 +14,7 @@ use Rattle.reach.specs.Tables.{sort, appointment, rule, view}
 use Rattle.reach.specs.Reach.{InUse, User, Target, isUser, isTarget}
 use Rattle.reach.specs.Privileges.{HoldsBy, Holds, AdministersBy, Administers, PermitsBy, Permitted, Orphan, owner, administrator, holdsBy, holds, administersBy, administers, permitsBy, askable, permitted, permitting, orphaned}
 use Rattle.reach.proofs.Testing.{decides-as, decides-same, decides-and, decides-not, decides-some, decides-eqb, decides-ltb, decides-true, some-map, lowest-none, lowest-found, LowestAt, lowest-cases, fails, some-found}
-use Rattle.reach.proofs.WordSets.{set-mask, set-not, decides-nonempty}
+use Rattle.reach.proofs.WordSets.{set-mask, set-not, decides-nonempty, has-is}
 use Rattle.reach.proofs.Chains.{in-use-below, decides-in-use, under-decides}
 
 -- What decides a user and an object: the sort that counts.
@@ -132,10 +132,12 @@ orphan-decides p {objects} {owned} o w =
     (orphaned-decides p)
 
 module _ (p : Policy) (u k x : ℕ) where
-  -- Tests of the user and the target that decide what the rules' own tests do.
-  pub askable-is : (a b : Bool) → Decides a (User (view p) u) → Decides b (Target (view p) x) → (a && b && ltb k 8) ≡ askable p u k x
+  -- Tests of the sets of users and of targets are the rules' own.
+  pub askable-is : {users targets : ℕ} → SetOf users (User (view p)) → SetOf targets (Target (view p)) → (a b : Bool) → a ≡ has users u
+      → b ≡ has targets x → (a && b && ltb k 8) ≡ askable p u k x
   unfolding askable
-  askable-is a b d e = rw (decides-same a (isUser p u) d (decides-user p u), decides-same b (isTarget p x) e (decides-eqb (sort p x) 3))
+  askable-is s t a b d e =
+      rw (d ∙ has-is s u (isUser p u) (decides-user p u), e ∙ has-is t x (isTarget p x) (decides-eqb (sort p x) 3))
 
   pub permitting-not : askable p u k x ≡ false → Nothing ≡ permitting p u k x
   unfolding permitting

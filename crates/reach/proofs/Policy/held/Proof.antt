@@ -43,7 +43,11 @@ returns-2 : tie.Need-returns-2 Inv-loop μ-loop
 returns-2 c =
     set-as
     (union-end _ 32 (c .before .loop .inv .1) (omega (arith, c .loop-test .left)))
-    (λ x w. record { user = set-inside _ (c .before .before .before .has .ensures) (c .before .before .if1 .left) (c .before .before .before .before .masks .ensures .users); by = w })
+    (λ x w.
+    record {
+      user = set-inside _ (c .before .before .before .has .ensures) (c .before .before .if1 .left) (c .before .before .before .before .masks .ensures .users);
+      by = w;
+    })
     (λ x h. h .by)
 
 pub held-spec : {M : Type 1} → statement M

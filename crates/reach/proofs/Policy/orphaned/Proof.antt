@@ -1,3 +1,4 @@
+-- An object has no owner if it is outside the union of what is owned by each place: a user who owns it does so by some place.
 use Rattle.reach.proofs.Deciding.{orphan-decides}
 use native.Mathlib.Omega.{arith}
 use Prim.Native.Nat.{_-_, _≤_}
@@ -10,7 +11,9 @@ use Rattle.reach.proofs.Policy.orphaned.Statement.{statement}
 use Rattle.reach.proofs.Policy.orphaned.Tie as tie
 
 abbrev Inv-loop : tie.InvT-loop
-Inv-loop self m owned₀ i₀ owned i = (i ≤ 32) × Union (λ j x. User (view self) (appointment self j .holder) × HoldsBy (view self) owner (appointment self j .holder) x j) i owned
+Inv-loop self m owned₀ i₀ owned i =
+    (i ≤ 32)
+    × Union (λ j x. User (view self) (appointment self j .holder) × HoldsBy (view self) owner (appointment self j .holder) x j) i owned
 
 abbrev μ-loop : tie.MeasureT-loop
 μ-loop self m owned₀ i₀ owned i = 32 - i
@@ -34,7 +37,9 @@ loop-again : tie.Need-loop-again Inv-loop μ-loop
 loop-again c = (search needs, union-add _ (c .before .before .loop .inv .1) (c .owned-by .ensures))
 
 returns : tie.Need-returns Inv-loop μ-loop
-returns c = orphan-decides _ (c .before .before .before .masks .ensures .objects) (union-end _ 32 (c .before .before .loop .inv .1) (omega (arith, c .before .loop-test .left)))
+returns c =
+    orphan-decides _ (c .before .before .before .masks .ensures .objects)
+    (union-end _ 32 (c .before .before .loop .inv .1) (omega (arith, c .before .loop-test .left)))
 
 pub orphaned-spec : {M : Type 1} → statement M
 orphaned-spec =

@@ -1,7 +1,6 @@
+-- The loop has found no permitting rule below i, so the one that it finds is the lowest, and if it finds none there is none.
 use mathlib.Core.Bool.{false}
 use borrow.Author.Tests.{not-true, not-false}
-use Rattle.reach.proofs.Testing.{decides-at}
-use Rattle.reach.proofs.WordSets.{decides-has}
 use Rattle.reach.proofs.Deciding.{askable-is, permitting-not, permitting-none, permitting-at}
 use mathlib.Core.Path.{_≡_, sym, _∙_}
 use Prim.Native.Nat.{_-_, _≤_}
@@ -30,7 +29,10 @@ has-requires-2 : tie.Need-has-requires-2 Inv-loop μ-loop
 has-requires-2 c κs = search needs
 
 returns : tie.Need-returns Inv-loop μ-loop
-returns c = permitting-not _ _ _ _ (sym (askable-is _ _ _ _ _ _ (decides-at (c .before .before .has .ensures) (decides-has (c .before .before .before .masks .ensures .users) _)) (decides-at (c .before .has2 .ensures) (decides-has (c .before .before .before .masks .ensures .targets) _))) ∙ not-true _ (c .if1 .taken))
+returns c =
+    let m = c .before .before .before .masks .ensures in
+    let asked = askable-is _ _ _ _ (m .users) (m .targets) _ _ (c .before .before .has .ensures) (c .before .has2 .ensures) in
+    permitting-not _ _ _ _ (sym asked ∙ not-true _ (c .if1 .taken))
 
 loop-holds : tie.Need-loop-holds Inv-loop μ-loop
 loop-holds c = (search needs, none-start _)
@@ -45,7 +47,11 @@ has-requires-3 : tie.Need-has-requires-3 Inv-loop μ-loop
 has-requires-3 c κs = search needs
 
 returns-2 : tie.Need-returns-2 Inv-loop μ-loop
-returns-2 c = permitting-at _ _ _ _ _ (sym (askable-is _ _ _ _ _ _ (decides-at (c .before .before .before .before .before .before .before .has .ensures) (decides-has (c .before .before .before .before .before .before .before .before .masks .ensures .users) _)) (decides-at (c .before .before .before .before .before .before .has2 .ensures) (decides-has (c .before .before .before .before .before .before .before .before .masks .ensures .targets) _))) ∙ not-false _ (c .before .before .before .before .before .if1 .left)) (search needs) (c .before .before .before .before .loop .inv .1) (sym (c .before .has3 .ensures ∙ has-is (c .before .before .permitted-by .ensures) _ _ (decides-permits-by _ _ _ _ _)) ∙ c .if2 .taken)
+returns-2 c =
+    let m = c .before .before .before .before .before .before .before .before .masks .ensures in
+    let asked = askable-is _ _ _ _ (m .users) (m .targets) _ _ (c .before .before .before .before .before .before .before .has .ensures) (c .before .before .before .before .before .before .has2 .ensures) in
+    let here = sym (c .before .has3 .ensures ∙ has-is (c .before .before .permitted-by .ensures) _ _ (decides-permits-by _ _ _ _ _)) ∙ c .if2 .taken in
+    permitting-at _ _ _ _ _ (sym asked ∙ not-false _ (c .before .before .before .before .before .if1 .left)) (search needs) (c .before .before .before .before .loop .inv .1) here
 
 add-i : tie.Need-add-i Inv-loop μ-loop
 add-i c = search needs
@@ -54,10 +60,16 @@ loop-less : tie.Need-loop-less Inv-loop μ-loop
 loop-less c = search needs
 
 loop-again : tie.Need-loop-again Inv-loop μ-loop
-loop-again c = (search needs, none-next _ _ (c .before .before .before .before .loop .inv .1) (sym (c .before .has3 .ensures ∙ has-is (c .before .before .permitted-by .ensures) _ _ (decides-permits-by _ _ _ _ _)) ∙ c .if2 .left))
+loop-again c =
+    let here = sym (c .before .has3 .ensures ∙ has-is (c .before .before .permitted-by .ensures) _ _ (decides-permits-by _ _ _ _ _)) ∙ c .if2 .left in
+    (search needs, none-next _ _ (c .before .before .before .before .loop .inv .1) here)
 
 returns-3 : tie.Need-returns-3 Inv-loop μ-loop
-returns-3 c = permitting-none _ _ _ _ (sym (askable-is _ _ _ _ _ _ (decides-at (c .before .before .before .before .has .ensures) (decides-has (c .before .before .before .before .before .masks .ensures .users) _)) (decides-at (c .before .before .before .has2 .ensures) (decides-has (c .before .before .before .before .before .masks .ensures .targets) _))) ∙ not-false _ (c .before .before .if1 .left)) (none-end 64 _ _ (c .before .loop .inv .0) (c .loop-test .left) (c .before .loop .inv .1))
+returns-3 c =
+    let m = c .before .before .before .before .before .masks .ensures in
+    let asked = askable-is _ _ _ _ (m .users) (m .targets) _ _ (c .before .before .before .before .has .ensures) (c .before .before .before .has2 .ensures) in
+    let none = none-end 64 _ _ (c .before .loop .inv .0) (c .loop-test .left) (c .before .loop .inv .1) in
+    permitting-none _ _ _ _ (sym asked ∙ not-false _ (c .before .before .if1 .left)) none
 
 pub permitting-spec : {M : Type 1} → statement M
 permitting-spec =
