@@ -201,7 +201,7 @@ module _ (p : Policy) (u : ℕ) where
   governs-decides : (x : ℕ) → Decides (governs p u x) (Governs (view p) u x)
   governs-decides x = decides-or _ _ (holds-decides p owner u x) (holds-decides p manager u x)
 
-  may-appoint-decides : (w : Appointment) → Decides (mayAppoint p u w) (MayAppoint (view p) u w)
+  pub may-appoint-decides : (w : Appointment) → Decides (mayAppoint p u w) (MayAppoint (view p) u w)
   unfolding mayAppoint
   may-appoint-decides w = go (eqb (w .kind) administrator) (decides-eqb (w .kind) administrator)
     where

@@ -11,3 +11,11 @@ pub mod Origins
 pub mod Staying
 pub mod Readings
 pub mod Verdicts
+pub mod Staged
+pub mod Finishing
+pub mod Spreading
+pub mod News
+pub mod Surveyed
+pub mod Gaining
+pub mod Growing
+pub mod Handing

@@ -40,7 +40,7 @@ row true r v e d = record { sound = λ a. absurd (true≢false (sym a ∙ e)); c
 row false r v e d = record { sound = λ a. (refl, d .sound a); complete = λ w. d .complete (w .1) }
 
 -- What has passed the table is accepted.
-done-accepted : (p : Policy) (u : ℕ) (q : Request) → accepted (done p u q) ≡ true
+pub done-accepted : (p : Policy) (u : ℕ) (q : Request) → accepted (done p u q) ≡ true
 unfolding done codeOf
 done-accepted p u (Make i s g) = refl
 done-accepted p u (Put x g) = refl

@@ -8,3 +8,5 @@ pub mod Refusals
 pub mod Judging
 pub mod Allowing
 pub mod Sample
+pub mod Stages
+pub mod Rows

@@ -1,5 +1,21 @@
 // The judge: one request on one policy. Its rules stand in specs/.
+ghost use mathlib.Core.Path.{_≡_};
+ghost use Rattle.judge.specs.Judging.{judge};
+
+mod checks;
+mod gains;
+mod kinds;
+mod records;
+mod rows;
+
+use checks::misfit;
+use checks::torn;
+use checks::unknown;
+use frame::byte;
+use kinds::decide;
+use kinds::refuse;
 use reach::Policy;
+use records::request_of;
 
 // A request as it is decoded, its sender aside; the fields are document 01's, in its order.
 pub enum Request {
@@ -60,8 +76,34 @@ pub enum Verdict {
     Orphan,
 }
 
+// A permission that is gained, target and operation, or none.
+pub enum Gain {
+    Permission(u8, u8),
+    Nothing,
+}
+
 // The policy after a request, and the verdict on it.
 pub struct Answer {
     pub policy: Policy,
     pub verdict: Verdict,
+}
+
+// The judge: the answer to one record on one policy, for every policy and all bytes.
+pub fn judge(p: Policy, bytes: &[u8]) -> Answer
+    ensures { λ r. ⌜ r ≡ judge p (now (bytes .entry)) ⌝ }
+{
+    if torn(bytes) {
+        return refuse(p, Verdict::Torn);
+    }
+    if unknown(bytes) {
+        return refuse(p, Verdict::Unknown);
+    }
+    if misfit(bytes) {
+        return refuse(p, Verdict::Misfit);
+    }
+    let u = byte(bytes, 4);
+    if (63 < u) | !p.is_user(u) {
+        return refuse(p, Verdict::Stranger);
+    }
+    decide(p, u, request_of(bytes))
 }

@@ -193,3 +193,30 @@ module _ (p : Policy) (z : Sized p) where
 pub sized-initial : Sized initial
 unfolding initial
 sized-initial = record { sorts = refl; members = refl; appointments = refl; rules = refl }
+
+-- ---- The places of the tables, as they are read
+
+pub appointment-is : (p : Policy) (i : ℕ) → view p .appointment i ≡ getD (p .appointments) i noAppointment
+unfolding appointment
+appointment-is p i = refl
+
+pub rule-is : (p : Policy) (i : ℕ) → view p .rule i ≡ getD (p .rules) i noRule
+unfolding rule
+rule-is p i = refl
+
+-- PUT leaves the appointments and the rules as they are.
+pub put-appointments : (p : Policy) (x g : ℕ) → put p x g .appointments ≡ p .appointments
+unfolding put
+put-appointments p x g = either (onTable x g)
+  where
+    either : (t : Bool) → (t ⇒ withMembers p (addTo (p .members) x g) ∥ p) .appointments ≡ p .appointments
+    either true = refl
+    either false = refl
+
+pub put-rules : (p : Policy) (x g : ℕ) → put p x g .rules ≡ p .rules
+unfolding put
+put-rules p x g = either (onTable x g)
+  where
+    either : (t : Bool) → (t ⇒ withMembers p (addTo (p .members) x g) ∥ p) .rules ≡ p .rules
+    either true = refl
+    either false = refl

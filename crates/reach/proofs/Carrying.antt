@@ -2,19 +2,19 @@
 -- the rules in use. One law for each privilege, for a change forward or back; then what each change carries.
 use mathlib.Core.Path.{_≡_, refl, sym, ap, _∙_, subst}
 use mathlib.Core.Bool.{true, true≢false}
-use mathlib.Core.Logic.{_⊎_, ⊎-elim}
+use mathlib.Core.Logic.{_⊎_, inl, inr, ⊎-elim}
 use Prim.Native.Nat.{ℕ, _≤_, _<_}
 use native.Mathlib.Omega.{arith}
 use Rattle.reach.specs.declared.Appointment.{Appointment}
 use Rattle.reach.specs.declared.AccessRule.{AccessRule}
 use Rattle.reach.specs.Words.{bit}
 use Rattle.reach.specs.Tables.{counted, noAppointment, noRule, View}
-use Rattle.reach.specs.Reach.{InUse, User, Target, Under}
+use Rattle.reach.specs.Reach.{InUse, Group, User, Target, Under}
 use Rattle.reach.specs.Privileges.{administrator, Holds, Administers, Permitted}
 use Rattle.reach.specs.Changes.{viewMade, viewPut, viewTaken, viewAppointed, viewRuled}
 use Rattle.reach.proofs.Testing.{some-map, written-cases}
 use Rattle.reach.proofs.Sorts.{counted-known}
-use Rattle.reach.proofs.Frames.{under-appointed, under-appointed-back, under-ruled, under-ruled-back, put-keeps, taken-removes-only, made-keeps, made-adds-none}
+use Rattle.reach.proofs.Frames.{under-appointed, under-appointed-back, under-ruled, under-ruled-back, put-keeps, put-adds, put-adds-only, taken-removes-only, made-keeps, made-adds-none}
 
 -- An appointment of a known kind stands.
 pub known-kind : (k : ℕ) → 1 ≤ k → k ≤ 3 → 0 < counted k
@@ -141,3 +141,32 @@ module _ (v : View) where
 
   pub same-carries : Carried v v All
   same-carries = record { under = λ o l. l; appointments = λ i s. refl }
+
+-- ---- What PUT adds to what is held
+
+-- Who holds something after PUT held it before, or it is under the object put and he holds the group.
+pub holds-put : (v : View) (x g : ℕ) {kind u y : ℕ} → Holds (viewPut v x g) kind u y → Holds v kind u y ⊎ (Under v y x × Holds v kind u g)
+holds-put v x g {kind} {u} {y} h =
+    ⊎-elim (λ l. inl (by-it l)) (λ l. inr (l .0, by-it (l .1))) (put-adds-only v x g (h .by .at .covers))
+  where
+    by-it : {z : ℕ} → Under v z (v .appointment (h .by .place) .a) → Holds v kind u z
+    by-it l =
+        record {
+          user = h .user;
+          by =
+              record {
+                place = h .by .place;
+                low = h .by .low;
+                at = record { is-kind = h .by .at .is-kind; is-holder = h .by .at .is-holder; covers = l };
+              };
+        }
+
+pub holds-put-new : (v : View) (x g : ℕ) → Group v g → {kind u y : ℕ} → Under v y x → Holds v kind u g → Holds (viewPut v x g) kind u y
+holds-put-new v x g j l h =
+    record {
+      user = h .user;
+      by =
+          some-map
+          (λ i b. record { is-kind = b .is-kind; is-holder = b .is-holder; covers = put-adds v x g j l (b .covers) })
+          (h .by);
+    }

@@ -1,0 +1,44 @@
+-- MAKE ends as its stage says: without authority, or done.
+use mathlib.Core.Path.{_≡_, refl, sym, ap, _∙_}
+use borrow.Author.Tests.{not-true, not-false}
+use Rattle.judge.specs.declared.Answer.{Answer}
+use Rattle.judge.specs.Authority.{may}
+use Rattle.judge.specs.Doing.{after}
+use Rattle.judge.specs.Refusals.{ownGain, handOver, orphan}
+use Rattle.judge.specs.Judging.{done}
+use Rattle.reach.specs.declared.Policy.{Policy}
+use Rattle.judge.specs.declared.Verdict.the-variants.{Done}
+use Rattle.judge.specs.declared.Request.the-variants.{Make}
+use Rattle.judge.specs.Stages.{refused}
+use Rattle.judge.proofs.Finishing.{finished-9, finished-0}
+use borrow.Author.Needs.{needs}
+use Rattle.judge.proofs.kinds.make.Statement.{statement}
+use Rattle.judge.proofs.kinds.make.Tie as tie
+
+governs-requires : tie.Need-governs-requires
+governs-requires c κs = search needs
+
+refuse-requires : tie.Need-refuse-requires
+refuse-requires c κs = search needs
+
+returns : tie.Need-returns
+unfolding may after done ownGain handOver orphan
+returns c = c .refuse .ensures ∙ finished-9 _ _ (Make _ _ _) (sym (c .before .before .governs .ensures) ∙ not-true _ (c .before .if1 .taken))
+
+made-requires : tie.Need-made-requires
+made-requires c κs = search needs
+
+refuse-requires-2 : tie.Need-refuse-requires-2
+refuse-requires-2 c κs = search needs
+
+returns-2 : tie.Need-returns-2
+unfolding may after done ownGain handOver orphan
+returns-2 c =
+    c .refuse2 .ensures
+    ∙ ap (λ (n : Policy). refused n Done) (c .before .made .ensures)
+    ∙ finished-0 _ _ (Make _ _ _) (sym (c .before .before .before .governs .ensures) ∙ not-false _ (c .before .before .if1 .left)) refl refl refl
+
+pub make-spec : {M : Type 1} → statement M
+make-spec =
+    tie.close
+    (tie.spec governs-requires refuse-requires returns made-requires refuse-requires-2 returns-2)

@@ -1,0 +1,74 @@
+-- TAKE ends as its stage says: without authority, with an orphan, or done.
+use mathlib.Core.Path.{_≡_, refl, sym, ap, _∙_}
+use borrow.Author.Tests.{not-true, not-false}
+use Rattle.judge.specs.declared.Answer.{Answer}
+use Rattle.judge.specs.Authority.{may}
+use Rattle.judge.specs.Doing.{after}
+use Rattle.judge.specs.Refusals.{ownGain, handOver, orphan}
+use Rattle.judge.specs.Judging.{done}
+use Rattle.reach.specs.declared.Policy.{Policy}
+use Rattle.judge.specs.declared.Verdict.the-variants.{Done}
+use Rattle.judge.specs.declared.Request.the-variants.{Take}
+use Rattle.judge.specs.Stages.{refused}
+use mathlib.Core.Bool.{_&&_}
+use mathlib.Core.Path.{ap₂}
+use Rattle.reach.specs.Privileges.{orphaned}
+use Rattle.judge.proofs.Finishing.{finished-9, finished-12, finished-0}
+use borrow.Author.Needs.{needs}
+use Rattle.judge.proofs.kinds.take.Statement.{statement}
+use Rattle.judge.proofs.kinds.take.Tie as tie
+
+governs-requires : tie.Need-governs-requires
+governs-requires c κs = search needs
+
+governs-requires-2 : tie.Need-governs-requires-2
+governs-requires-2 c κs = search needs
+
+refuse-requires : tie.Need-refuse-requires
+refuse-requires c κs = search needs
+
+returns : tie.Need-returns
+unfolding may after done ownGain handOver orphan
+returns c = c .refuse .ensures ∙ finished-9 _ _ (Take _ _) (sym (ap₂ _&&_ (c .before .before .before .governs .ensures) (c .before .before .governs2 .ensures)) ∙ not-true _ (c .before .if1 .taken))
+
+taken-requires : tie.Need-taken-requires
+taken-requires c κs = search needs
+
+orphaned-requires : tie.Need-orphaned-requires
+orphaned-requires c κs = search needs
+
+refuse-requires-2 : tie.Need-refuse-requires-2
+refuse-requires-2 c κs = search needs
+
+returns-2 : tie.Need-returns-2
+unfolding may after done ownGain handOver orphan
+returns-2 c =
+    c .refuse2 .ensures
+    ∙ finished-12 _ _ (Take _ _) (sym (ap₂ _&&_ (c .before .before .before .before .before .before .governs .ensures) (c .before .before .before .before .before .governs2 .ensures)) ∙ not-false _ (c .before .before .before .before .if1 .left)) refl refl
+    (ap orphaned (sym (c .before .before .before .taken .ensures)) ∙ sym (c .before .before .orphaned .ensures) ∙ c .before .if2 .taken)
+
+refuse-requires-3 : tie.Need-refuse-requires-3
+refuse-requires-3 c κs = search needs
+
+returns-3 : tie.Need-returns-3
+unfolding may after done ownGain handOver orphan
+returns-3 c =
+    c .refuse3 .ensures
+    ∙ ap (λ (n : Policy). refused n Done) (c .before .before .before .taken .ensures)
+    ∙ finished-0 _ _ (Take _ _) (sym (ap₂ _&&_ (c .before .before .before .before .before .before .governs .ensures) (c .before .before .before .before .before .governs2 .ensures)) ∙ not-false _ (c .before .before .before .before .if1 .left)) refl refl
+    (ap orphaned (sym (c .before .before .before .taken .ensures)) ∙ sym (c .before .before .orphaned .ensures) ∙ c .before .if2 .left)
+
+pub take-spec : {M : Type 1} → statement M
+take-spec =
+    tie.close
+    (tie.spec
+    governs-requires
+    governs-requires-2
+    refuse-requires
+    returns
+    taken-requires
+    orphaned-requires
+    refuse-requires-2
+    returns-2
+    refuse-requires-3
+    returns-3)

@@ -1,0 +1,85 @@
+-- Number by number: the set has those below i whose rows have g.
+use mathlib.Core.Path.{_≡_, refl, sym, ap, _∙_}
+use native.Mathlib.Omega.{arith}
+use Prim.Native.Nat.{ℕ, _-_, _≤_, _<_}
+use Rattle.judge.specs.Rows.{In}
+use Rattle.reach.specs.Words.{has, SetOf}
+use Rattle.reach.specs.Tests.{Decides}
+use borrow.Author.Tests.{eqb-true, eq-eqb}
+use Rattle.reach.proofs.WordSets.{set-as, set-one, gathered-none, gathered-next}
+use Rattle.reach.proofs.Testing.{decides-at, decides-eqb}
+use borrow.Author.Needs.{needs}
+use Rattle.judge.proofs.rows.above.Statement.{statement}
+use Rattle.judge.proofs.rows.above.Tie as tie
+
+abbrev Inv-loop : tie.InvT-loop
+Inv-loop g rows set₀ i₀ set i = (i ≤ 64) × SetOf set (λ x. (x < i) × In rows x g)
+
+abbrev μ-loop : tie.MeasureT-loop
+μ-loop g rows set₀ i₀ set i = 64 - i
+
+loop-holds : tie.Need-loop-holds Inv-loop μ-loop
+loop-holds c = (search needs, gathered-none _)
+
+cast-n : tie.Need-cast-n Inv-loop μ-loop
+cast-n c = search needs
+
+mul-has : tie.Need-mul-has Inv-loop μ-loop
+mul-has c = search needs
+
+array-read-has : tie.Need-array-read-has Inv-loop μ-loop
+array-read-has c = search needs
+
+has-requires : tie.Need-has-requires Inv-loop μ-loop
+has-requires c κs = search needs
+
+cast-only-if : tie.Need-cast-only-if Inv-loop μ-loop
+cast-only-if c = search needs
+
+shl-only-if : tie.Need-shl-only-if Inv-loop μ-loop
+shl-only-if c = search needs
+
+only-if-requires : tie.Need-only-if-requires Inv-loop μ-loop
+only-if-requires c κs = search needs
+
+add-i : tie.Need-add-i Inv-loop μ-loop
+add-i c = search needs
+
+loop-less : tie.Need-loop-less Inv-loop μ-loop
+loop-less c = search needs
+
+loop-again : tie.Need-loop-again Inv-loop μ-loop
+unfolding has
+loop-again c = (
+  search needs,
+  gathered-next
+      _
+      (c .before .before .before .loop .inv .1)
+      (set-as
+      (c .only-if .ensures)
+      (λ x w. (set-one _ (search needs) .only x (w .1), w .0))
+      (λ x w. (w .1, set-one _ (search needs) .all x (w .0))))
+      (decides-at (c .before .has .ensures) (decides-eqb _ 1)),
+)
+
+returns : tie.Need-returns Inv-loop μ-loop
+returns c = set-as (c .before .loop .inv .1) (λ x w. (omega (arith, w .0, c .before .loop .inv .0), w .1)) (λ x w. (omega (arith, w .0, c .loop-test .left), w .1))
+
+pub above-spec : {M : Type 1} → statement M
+above-spec =
+    tie.close
+    (tie.spec
+    Inv-loop
+    μ-loop
+    loop-holds
+    cast-n
+    mul-has
+    array-read-has
+    has-requires
+    cast-only-if
+    shl-only-if
+    only-if-requires
+    add-i
+    loop-less
+    loop-again
+    returns)

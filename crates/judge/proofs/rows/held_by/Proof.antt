@@ -1,0 +1,30 @@
+-- What u holds by one appointment is the row of its A, if its kind and its holder are those asked for, and else nothing.
+use mathlib.Core.Path.{_≡_, refl, sym, ap, _∙_}
+use lib.ListN.{getD}
+use Rattle.reach.proofs.WordSets.{set-as, set-at, set-bits, set-none}
+use mir.Syntax.{w64}
+use mir.Val.{Fits}
+use borrow.Author.Needs.{needs}
+use Rattle.judge.proofs.rows.held_by.Statement.{statement}
+use Rattle.judge.proofs.rows.held_by.Tie as tie
+
+returns : tie.Need-returns
+returns c = set-none (λ x h. c .if1 .taken (h .0 .0))
+
+returns-2 : tie.Need-returns-2
+returns-2 c = set-none (λ x h. c .if2 .taken (h .0 .1))
+
+row-requires : tie.Need-row-requires
+row-requires c κs = search needs
+
+returns-3 : tie.Need-returns-3
+returns-3 c =
+    let a = c .before .before .before .before .before .args in
+    let fits : Fits w64 (getD (a .rows) (a .w .a) 0) = search needs in
+    set-as
+    (set-at (c .row .ensures) (set-bits _ (fits .fits)))
+    (λ x e. ((c .before .before .before .if1 .left, c .before .if2 .left), e))
+    (λ x h. h .1)
+
+pub held-by-spec : {M : Type 1} → statement M
+held-by-spec = tie.close (tie.spec returns returns-2 row-requires returns-3)
