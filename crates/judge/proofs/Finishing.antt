@@ -3,12 +3,12 @@ use mathlib.Core.Path.{_≡_}
 use mathlib.Core.Bool.{true, false}
 use Prim.Native.Nat.{ℕ}
 use Rattle.reach.specs.declared.Policy.{Policy}
-use Rattle.judge.specs.declared.Request.{Request}
-use Rattle.judge.specs.declared.Verdict.the-variants.{OffTheSheet, Absent, WrongSort, AlreadySo, NoAuthority, OwnGain, HandOver, Orphan}
-use Rattle.judge.specs.Authority.{may}
-use Rattle.judge.specs.Doing.{after}
-use Rattle.judge.specs.Refusals.{offTheSheet, absent, wrongSort, alreadySo, noAuthority, ownGain, handOver, orphan}
-use Rattle.judge.specs.Judging.{done}
+use Rattle.rules.specs.declared.Request.{Request}
+use Rattle.rules.specs.declared.Verdict.the-variants.{OffTheSheet, Absent, WrongSort, AlreadySo, NoAuthority, OwnGain, HandOver, Orphan}
+use Rattle.rules.specs.Authority.{may}
+use Rattle.rules.specs.Doing.{after}
+use Rattle.rules.specs.Refusals.{offTheSheet, absent, wrongSort, alreadySo, noAuthority, ownGain, handOver, orphan}
+use Rattle.rules.specs.Judging.{done}
 use Rattle.judge.specs.Stages.{refused, finished, decided, Cleared}
 
 module _ (p : Policy) (u : ℕ) (q : Request) where

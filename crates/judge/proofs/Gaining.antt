@@ -15,17 +15,17 @@ use Rattle.reach.specs.Privileges.{owner, manager, administrator, Manages, Admi
 use Rattle.reach.specs.Changes.{viewAppointed, viewRuled}
 use Rattle.reach.proofs.Testing.{decides-as, decides-same, fails}
 use Rattle.reach.proofs.Carrying.{known-kind, holds-carried, administers-carried, ruled-carries-back}
-use Rattle.judge.specs.declared.Request.{Request}
-use Rattle.judge.specs.declared.Request.the-variants.{Appoint, Grant}
-use Rattle.judge.specs.Doing.{after}
-use Rattle.judge.specs.Gains.{gives}
-use Rattle.judge.specs.Refusals.{ownGain}
+use Rattle.rules.specs.declared.Request.{Request}
+use Rattle.rules.specs.declared.Request.the-variants.{Appoint, Grant}
+use Rattle.rules.specs.Doing.{after}
+use Rattle.rules.specs.Gains.{gives}
+use Rattle.rules.specs.Refusals.{ownGain}
 use Rattle.judge.specs.Stages.{Cleared}
-use Rattle.judge.specs.Allowing.{Privilege, owning, managing, administering, permission, Has, There, Gives, Fits, viewAfter, MayAppoint, appointing}
-use Rattle.judge.proofs.Giving.{gives-decides}
-use Rattle.judge.proofs.Fitting.{fits}
-use Rattle.judge.proofs.Reading.{view-after}
-use Rattle.judge.proofs.Readings.{OwnAppointment, AppointGains, appoint-own-gain}
+use Rattle.rules.specs.Allowing.{Privilege, owning, managing, administering, permission, Has, There, Gives, Fits, viewAfter, MayAppoint, appointing}
+use Rattle.rules.proofs.Giving.{gives-decides}
+use Rattle.rules.proofs.Fitting.{fits}
+use Rattle.rules.proofs.Reading.{view-after}
+use Rattle.rules.proofs.Readings.{OwnAppointment, AppointGains, appoint-own-gain}
 use Rattle.judge.proofs.Surveyed.{NewAt, permitted-table, gain-new, no-gain-new}
 use Rattle.judge.specs.declared.Gain.the-variants.{Permission, Nothing}
 use Rattle.judge.specs.Rows.{PermittedAt, FirstNew}

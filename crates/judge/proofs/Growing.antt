@@ -23,15 +23,15 @@ use Rattle.reach.proofs.Chains.{in-use-below}
 use Rattle.reach.proofs.Frames.{put-keeps, put-adds, put-adds-only}
 use Rattle.reach.proofs.Carrying.{holds-put, holds-put-new}
 use Rattle.reach.proofs.AsRead.{put-appointments, put-rules}
-use Rattle.judge.specs.declared.Request.the-variants.{Put}
+use Rattle.rules.specs.declared.Request.the-variants.{Put}
 use Rattle.judge.specs.declared.Gain.the-variants.{Permission, Nothing}
-use Rattle.judge.specs.Doing.{after}
-use Rattle.judge.specs.Refusals.{ownGain}
+use Rattle.rules.specs.Doing.{after}
+use Rattle.rules.specs.Refusals.{ownGain}
 use Rattle.judge.specs.Stages.{Cleared}
-use Rattle.judge.specs.Allowing.{Privilege, owning, managing, administering, permission, Has, Gives}
+use Rattle.rules.specs.Allowing.{Privilege, owning, managing, administering, permission, Has, Gives}
 use Rattle.judge.specs.Rows.{In, AdministeredAt, PermittedAt, Joined, New, FirstNew}
-use Rattle.judge.proofs.Giving.{gives-decides}
-use Rattle.judge.proofs.Reading.{view-after}
+use Rattle.rules.proofs.Giving.{gives-decides}
+use Rattle.rules.proofs.Reading.{view-after}
 use Rattle.judge.proofs.Gaining.{fits-of}
 use Rattle.judge.proofs.Surveyed.{NewAt, in-under, under-in, administered-table, permitted-table, decides-new-pair, gain-new, no-gain-new}
 

@@ -19,14 +19,14 @@ use Rattle.reach.proofs.Testing.{decides-as, decides-same}
 use Rattle.reach.proofs.Reaching.{under-lower}
 use Rattle.reach.proofs.Chains.{in-use-below}
 use Rattle.reach.proofs.Carrying.{holds-put, holds-put-new}
-use Rattle.judge.specs.declared.Request.the-variants.{Put}
-use Rattle.judge.specs.Doing.{after}
-use Rattle.judge.specs.Refusals.{handOver}
+use Rattle.rules.specs.declared.Request.the-variants.{Put}
+use Rattle.rules.specs.Doing.{after}
+use Rattle.rules.specs.Refusals.{handOver}
 use Rattle.judge.specs.Stages.{Cleared}
-use Rattle.judge.specs.Allowing.{HandsOver}
+use Rattle.rules.specs.Allowing.{HandsOver}
 use Rattle.judge.specs.Rows.{In, HeldAt, HandedBy}
-use Rattle.judge.proofs.Giving.{hands-over-decides}
-use Rattle.judge.proofs.Reading.{view-after}
+use Rattle.rules.proofs.Giving.{hands-over-decides}
+use Rattle.rules.proofs.Reading.{view-after}
 use Rattle.judge.proofs.Gaining.{fits-of}
 use Rattle.judge.proofs.Surveyed.{in-under, under-in, held-is, is-held}
 

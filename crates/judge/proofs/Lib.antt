@@ -1,16 +1,4 @@
--- The laws of the judge's rules, each file under its subject.
-pub mod Sampled
-pub mod Passing
-pub mod Giving
-pub mod Table
-pub mod Fitting
-pub mod Reading
-pub mod TwoWordings
-pub mod Steps
-pub mod Origins
-pub mod Staying
-pub mod Readings
-pub mod Verdicts
+-- The laws by which the judge's code follows the rules, each file under its subject.
 pub mod Staged
 pub mod Finishing
 pub mod Spreading

@@ -8,16 +8,16 @@ use lib.Dec.{eqb, ltb}
 use Rattle.reach.specs.Reach.{isUser}
 use Rattle.reach.specs.declared.Policy.{Policy}
 use Rattle.reach.specs.Tests.{_⇒_∥_}
-use Rattle.judge.specs.declared.Request.{Request}
-use Rattle.judge.specs.declared.Verdict.{Verdict}
-use Rattle.judge.specs.declared.Verdict.the-variants.{Torn, Unknown, Misfit, Stranger}
-use Rattle.judge.specs.declared.Answer.{Answer}
-use Rattle.judge.specs.Records.{sender, request}
-use Rattle.judge.specs.Doing.{after}
-use Rattle.judge.specs.Refusals.{torn, unknown, misfit, stranger, offTheSheet, absent, wrongSort, alreadySo, noAuthority, ownGain, handOver, orphan}
-use Rattle.judge.specs.Judging.{codeOf, done, verdictOn, verdict, accepted, judge}
+use Rattle.rules.specs.declared.Request.{Request}
+use Rattle.rules.specs.declared.Verdict.{Verdict}
+use Rattle.rules.specs.declared.Verdict.the-variants.{Torn, Unknown, Misfit, Stranger}
+use Rattle.rules.specs.declared.Answer.{Answer}
+use Rattle.rules.specs.Records.{sender, request}
+use Rattle.rules.specs.Doing.{after}
+use Rattle.rules.specs.Refusals.{torn, unknown, misfit, stranger, offTheSheet, absent, wrongSort, alreadySo, noAuthority, ownGain, handOver, orphan}
+use Rattle.rules.specs.Judging.{codeOf, done, verdictOn, verdict, accepted, judge}
 use Rattle.judge.specs.Stages.{refused, finished, decided, judged}
-use Rattle.judge.proofs.Table.{done-accepted}
+use Rattle.rules.proofs.Table.{done-accepted}
 
 -- The answer of a verdict.
 abbrev answer : Policy → Request → Verdict → Answer

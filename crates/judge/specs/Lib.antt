@@ -1,12 +1,3 @@
--- The rules of the judge, in the order of document 01: what a record asks for, who may send what, what each request does, what it
--- gives, when the board says no, the judge; and then the same rules in a second wording.
-pub mod Records
-pub mod Authority
-pub mod Doing
-pub mod Gains
-pub mod Refusals
-pub mod Judging
-pub mod Allowing
-pub mod Sample
+-- How the judge's code goes through the rules: the table of refusals in three stages, and what it works out in words.
 pub mod Stages
 pub mod Rows

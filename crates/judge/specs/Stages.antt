@@ -6,14 +6,14 @@ use mathlib.Core.List.{List}
 use Prim.Native.Nat.{ℕ}
 use Rattle.reach.specs.declared.Policy.{Policy}
 use Rattle.reach.specs.Tests.{_⇒_∥_}
-use Rattle.judge.specs.declared.Request.{Request}
-use Rattle.judge.specs.declared.Verdict.{Verdict}
-use Rattle.judge.specs.declared.Verdict.the-variants.{Torn, Unknown, Misfit, Stranger, OffTheSheet, Absent, WrongSort, AlreadySo, NoAuthority, OwnGain, HandOver, Orphan}
-use Rattle.judge.specs.declared.Answer.{Answer}
-use Rattle.judge.specs.Records.{sender, request}
-use Rattle.judge.specs.Doing.{after}
-use Rattle.judge.specs.Refusals.{torn, unknown, misfit, stranger, offTheSheet, absent, wrongSort, alreadySo, noAuthority, ownGain, handOver, orphan}
-use Rattle.judge.specs.Judging.{done}
+use Rattle.rules.specs.declared.Request.{Request}
+use Rattle.rules.specs.declared.Verdict.{Verdict}
+use Rattle.rules.specs.declared.Verdict.the-variants.{Torn, Unknown, Misfit, Stranger, OffTheSheet, Absent, WrongSort, AlreadySo, NoAuthority, OwnGain, HandOver, Orphan}
+use Rattle.rules.specs.declared.Answer.{Answer}
+use Rattle.rules.specs.Records.{sender, request}
+use Rattle.rules.specs.Doing.{after}
+use Rattle.rules.specs.Refusals.{torn, unknown, misfit, stranger, offTheSheet, absent, wrongSort, alreadySo, noAuthority, ownGain, handOver, orphan}
+use Rattle.rules.specs.Judging.{done}
 
 -- A refusal hands back the policy as it was.
 abbrev pub refused : Policy → Verdict → Answer

@@ -3,12 +3,12 @@ ghost use mathlib.Core.Path.{_≡_};
 ghost use mathlib.Core.Bool.{not};
 ghost use lib.Dec.{eqb, ltb};
 ghost use Rattle.reach.specs.Tests.{_⇒_∥_};
-ghost use Rattle.judge.specs.Refusals.{torn, unknown, misfit, oneToThree, offTheSheet, absent, wrongSort, alreadySo};
-use crate::Request;
+ghost use Rattle.rules.specs.Refusals.{torn, unknown, misfit, oneToThree, offTheSheet, absent, wrongSort, alreadySo};
 use crate::records::length_of;
 use frame::kind_field;
 use frame::length_field;
 use reach::Policy;
+use rules::Request;
 
 // Check 1.
 pub fn torn(b: &[u8]) -> bool

@@ -2,12 +2,9 @@
 ghost use mathlib.Core.Path.{_≡_};
 ghost use mathlib.Core.Bool.{true};
 ghost use Rattle.reach.specs.Reach.{isUser};
-ghost use Rattle.judge.specs.declared.Request.the-variants.{Make, Put, Take, Appoint, Dismiss, Grant, Withdraw, Use};
-ghost use Rattle.judge.specs.Authority.{governs, mayAppoint};
+ghost use Rattle.rules.specs.declared.Request.the-variants.{Make, Put, Take, Appoint, Dismiss, Grant, Withdraw, Use};
+ghost use Rattle.rules.specs.Authority.{governs, mayAppoint};
 ghost use Rattle.judge.specs.Stages.{refused, finished, decided, Cleared};
-use crate::Answer;
-use crate::Request;
-use crate::Verdict;
 use crate::checks::absent;
 use crate::checks::already_so;
 use crate::checks::off_the_sheet;
@@ -21,6 +18,9 @@ use crate::rows::row;
 use reach::Appointment;
 use reach::Place;
 use reach::Policy;
+use rules::Answer;
+use rules::Request;
+use rules::Verdict;
 
 // A refusal: the policy as it was.
 pub fn refuse(p: Policy, verdict: Verdict) -> Answer

@@ -1,6 +1,6 @@
-// The judge: one request on one policy. Its rules stand in specs/.
+// The judge: one request on one policy, answered as the crate `rules` says.
 ghost use mathlib.Core.Path.{_≡_};
-ghost use Rattle.judge.specs.Judging.{judge};
+ghost use Rattle.rules.specs.Judging.{judge};
 
 mod checks;
 mod gains;
@@ -16,76 +16,13 @@ use kinds::decide;
 use kinds::refuse;
 use reach::Policy;
 use records::request_of;
-
-// A request as it is decoded, its sender aside; the fields are document 01's, in its order.
-pub enum Request {
-    Make {
-        place: u8,
-        sort: u8,
-        group: u8,
-    },
-    Put {
-        object: u8,
-        group: u8,
-    },
-    Take {
-        object: u8,
-        group: u8,
-    },
-    Appoint {
-        place: u8,
-        kind: u8,
-        holder: u8,
-        a: u8,
-        b: u8,
-    },
-    Dismiss {
-        place: u8,
-    },
-    Grant {
-        place: u8,
-        users: u8,
-        targets: u8,
-        operations: u8,
-    },
-    Withdraw {
-        place: u8,
-    },
-    Use {
-        target: u8,
-        operation: u8,
-    },
-}
-
-// The answer to a request: done, done by the rule at a place (an accepted USE), or one of the twelve refusals in the order of
-// document 01's table.
-pub enum Verdict {
-    Done,
-    DoneBy(u8),
-    Torn,
-    Unknown,
-    Misfit,
-    Stranger,
-    OffTheSheet,
-    Absent,
-    WrongSort,
-    AlreadySo,
-    NoAuthority,
-    OwnGain,
-    HandOver,
-    Orphan,
-}
+use rules::Answer;
+use rules::Verdict;
 
 // A permission that is gained, target and operation, or none.
 pub enum Gain {
     Permission(u8, u8),
     Nothing,
-}
-
-// The policy after a request, and the verdict on it.
-pub struct Answer {
-    pub policy: Policy,
-    pub verdict: Verdict,
 }
 
 // The judge: the answer to one record on one policy, for every policy and all bytes.

@@ -1,9 +1,9 @@
 // What a record asks for.
 ghost use mathlib.Core.Path.{_≡_};
-ghost use Rattle.judge.specs.Records.{lengthOf, request};
-use crate::Request;
+ghost use Rattle.rules.specs.Records.{lengthOf, request};
 use frame::byte;
 use frame::kind_field;
+use rules::Request;
 
 // The length of a record of each kind.
 pub fn length_of(kind: usize) -> usize

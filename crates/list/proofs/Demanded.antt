@@ -9,12 +9,12 @@ use Rattle.reach.specs.Tables.{View, Sized, view, initial}
 use Rattle.reach.specs.Reach.{User}
 use Rattle.reach.proofs.AsRead.{sized-initial}
 use Rattle.reach.proofs.Founding.{initial-user, initial-appointment, initial-direct, initial-rule, initial-owns}
-use Rattle.judge.specs.Records.{sender}
+use Rattle.rules.specs.Records.{sender}
 use Rattle.reach.specs.Privileges.{Owns, Manages}
 use mathlib.Core.Logic.{_⊎_, ⊎-elim}
 use Prim.Native.Nat.{ℕ, suc, _<_}
-use Rattle.judge.specs.Allowing.{Gives, HandsOver, Owned, viewAfter}
-use Rattle.judge.proofs.Steps.{Holders, step-owned, step-holders, step-no-gain, step-no-hand}
+use Rattle.rules.specs.Allowing.{Gives, HandsOver, Owned, viewAfter}
+use Rattle.rules.proofs.Steps.{Holders, step-owned, step-holders, step-no-gain, step-no-hand}
 use Rattle.list.specs.Runs.{Bytes, run, before, end, recordAt}
 use Rattle.list.specs.Demand.{Demand3, FoundingDemand3}
 use Rattle.list.proofs.Positions.{Next, did, turned-away, next, kept, as-allowed}

@@ -12,10 +12,10 @@ use Rattle.reach.specs.declared.Appointment.{Appointment}
 use Rattle.reach.specs.declared.AccessRule.{AccessRule}
 use Rattle.reach.specs.Tables.{View, Sized}
 use Rattle.reach.specs.Reach.{Direct}
-use Rattle.judge.specs.declared.Request.{Request}
-use Rattle.judge.specs.declared.Request.the-variants.{Take, Dismiss, Withdraw}
-use Rattle.judge.specs.Allowing.{Standing, Allowed, viewAfter}
-use Rattle.judge.proofs.Staying.{appointment-stays, rule-stays, direct-stays, appointing-appoints, granting-grants, made-in, put-in}
+use Rattle.rules.specs.declared.Request.{Request}
+use Rattle.rules.specs.declared.Request.the-variants.{Take, Dismiss, Withdraw}
+use Rattle.rules.specs.Allowing.{Standing, Allowed, viewAfter}
+use Rattle.rules.proofs.Staying.{appointment-stays, rule-stays, direct-stays, appointing-appoints, granting-grants, made-in, put-in}
 use Rattle.list.specs.Runs.{Bytes, before, end, Done, NotDone}
 use Rattle.list.specs.Lines.{AppointmentLine, MembershipLine, RuleLine}
 use Rattle.list.proofs.Positions.{Next, did, turned-away, next, as-allowed}

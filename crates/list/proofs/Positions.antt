@@ -9,13 +9,13 @@ use lib.ListN.{take}
 use lib.Seq.{take-suc}
 use Rattle.reach.specs.declared.Policy.{Policy}
 use Rattle.reach.specs.Tables.{View, Sized, view}
-use Rattle.judge.specs.declared.Request.{Request}
-use Rattle.judge.specs.Records.{sender, request}
-use Rattle.judge.specs.Judging.{codeOf, verdict, accepted, judge}
-use Rattle.judge.specs.Allowing.{viewAfter, Allowed}
-use Rattle.judge.proofs.Table.{refused-same}
-use Rattle.judge.proofs.TwoWordings.{judge-decides, judge-after, judge-sized}
-use Rattle.judge.proofs.Verdicts.{accepted-code, refused-code}
+use Rattle.rules.specs.declared.Request.{Request}
+use Rattle.rules.specs.Records.{sender, request}
+use Rattle.rules.specs.Judging.{codeOf, verdict, accepted, judge}
+use Rattle.rules.specs.Allowing.{viewAfter, Allowed}
+use Rattle.rules.proofs.Table.{refused-same}
+use Rattle.rules.proofs.TwoWordings.{judge-decides, judge-after, judge-sized}
+use Rattle.rules.proofs.Verdicts.{accepted-code, refused-code}
 use Rattle.list.specs.Runs.{Bytes, run, policyAt, before, end, recordAt, Done}
 
 run-append : (p : Policy) (xs ys : List Bytes) → run p (xs ++ ys) ≡ run (run p xs) ys

@@ -8,9 +8,9 @@ use Rattle.reach.specs.declared.Policy.{Policy}
 use Rattle.reach.specs.Tables.{initial}
 use Rattle.reach.specs.Reach.{Direct}
 use Rattle.reach.specs.Privileges.{owner, Permitted}
-use Rattle.judge.specs.declared.Request.{Request}
-use Rattle.judge.specs.Records.{sender}
-use Rattle.judge.specs.Allowing.{Gives, HandsOver, Owned, Standing}
+use Rattle.rules.specs.declared.Request.{Request}
+use Rattle.rules.specs.Records.{sender}
+use Rattle.rules.specs.Allowing.{Gives, HandsOver, Owned, Standing}
 use Rattle.list.specs.Runs.{Bytes, before, end, recordAt, Done}
 use Rattle.list.specs.Lines.{PermissionLine}
 

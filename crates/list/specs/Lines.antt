@@ -10,9 +10,9 @@ use Rattle.reach.specs.declared.AccessRule.{AccessRule}
 use Rattle.reach.specs.Tables.{View}
 use Rattle.reach.specs.Reach.{Direct, Under, itself, up}
 use Rattle.reach.specs.Privileges.{administrator, Owns, Manages, Administers, PermitsBy}
-use Rattle.judge.specs.declared.Request.{Request}
-use Rattle.judge.specs.declared.Request.the-variants.{Make, Put, Take, Dismiss, Withdraw}
-use Rattle.judge.specs.Allowing.{Standing, appointing, granting}
+use Rattle.rules.specs.declared.Request.{Request}
+use Rattle.rules.specs.declared.Request.the-variants.{Make, Put, Take, Dismiss, Withdraw}
+use Rattle.rules.specs.Allowing.{Standing, appointing, granting}
 use Rattle.list.specs.Runs.{Bytes, before, end, Done, NotDone}
 
 -- P of each direct membership on a chain.

@@ -5,9 +5,9 @@ use Prim.Native.Nat.{ℕ, _≤_, _<_}
 use lib.ListN.{length, take, getD}
 use Rattle.reach.specs.declared.Policy.{Policy}
 use Rattle.reach.specs.Tables.{View, view}
-use Rattle.judge.specs.declared.Request.{Request}
-use Rattle.judge.specs.Records.{sender, request}
-use Rattle.judge.specs.Judging.{codeOf, judge}
+use Rattle.rules.specs.declared.Request.{Request}
+use Rattle.rules.specs.Records.{sender, request}
+use Rattle.rules.specs.Judging.{codeOf, judge}
 
 -- A byte string.
 abbrev pub Bytes : Type 0

@@ -1,4 +1,4 @@
-use Rattle.judge.specs.Refusals.{absent}
+use Rattle.rules.specs.Refusals.{absent}
 use borrow.Author.Needs.{needs}
 use Rattle.judge.proofs.checks.absent.Statement.{statement}
 use Rattle.judge.proofs.checks.absent.Tie as tie

@@ -1,4 +1,4 @@
-use Rattle.judge.specs.Refusals.{alreadySo}
+use Rattle.rules.specs.Refusals.{alreadySo}
 use borrow.Author.Needs.{needs}
 use Rattle.judge.proofs.checks.already_so.Statement.{statement}
 use Rattle.judge.proofs.checks.already_so.Tie as tie

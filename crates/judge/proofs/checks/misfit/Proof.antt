@@ -1,5 +1,5 @@
 -- `misfit` is its definition, by the contracts of what it calls.
-use Rattle.judge.specs.Refusals.{misfit}
+use Rattle.rules.specs.Refusals.{misfit}
 use borrow.Author.Needs.{needs}
 use Rattle.judge.proofs.checks.misfit.Statement.{statement}
 use Rattle.judge.proofs.checks.misfit.Tie as tie

@@ -1,5 +1,5 @@
 -- Check 5 is its definition, kind by kind.
-use Rattle.judge.specs.Refusals.{offTheSheet}
+use Rattle.rules.specs.Refusals.{offTheSheet}
 use borrow.Author.Needs.{needs}
 use Rattle.judge.proofs.checks.off_the_sheet.Statement.{statement}
 use Rattle.judge.proofs.checks.off_the_sheet.Tie as tie

@@ -1,5 +1,5 @@
 -- `torn` is its definition, by the contract of `length_field`.
-use Rattle.judge.specs.Refusals.{torn}
+use Rattle.rules.specs.Refusals.{torn}
 use borrow.Author.Needs.{needs}
 use Rattle.judge.proofs.checks.torn.Statement.{statement}
 use Rattle.judge.proofs.checks.torn.Tie as tie

@@ -1,5 +1,5 @@
 -- `unknown` is its definition, by the contract of `kind_field`.
-use Rattle.judge.specs.Refusals.{unknown}
+use Rattle.rules.specs.Refusals.{unknown}
 use borrow.Author.Needs.{needs}
 use Rattle.judge.proofs.checks.unknown.Statement.{statement}
 use Rattle.judge.proofs.checks.unknown.Tie as tie

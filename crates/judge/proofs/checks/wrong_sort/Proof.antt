@@ -1,5 +1,5 @@
 -- Check 7 is its definition, kind by kind, by the contracts of what it asks of the policy.
-use Rattle.judge.specs.Refusals.{wrongSort}
+use Rattle.rules.specs.Refusals.{wrongSort}
 use borrow.Author.Needs.{needs}
 use Rattle.judge.proofs.checks.wrong_sort.Statement.{statement}
 use Rattle.judge.proofs.checks.wrong_sort.Tie as tie

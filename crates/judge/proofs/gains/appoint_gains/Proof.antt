@@ -7,7 +7,7 @@ use Rattle.reach.specs.Tables.{Sized}
 use Rattle.reach.proofs.Lists.{length-mapped}
 use Rattle.reach.proofs.Testing.{decides-as, decides-at, decides-not}
 use Rattle.reach.proofs.Deciding.{holds-decides, administers-decides}
-use Rattle.judge.proofs.Fitting.{may-appoint-decides}
+use Rattle.rules.proofs.Fitting.{may-appoint-decides}
 use Rattle.judge.proofs.News.{decides-no}
 use Rattle.judge.proofs.Gaining.{appoint-gain}
 use borrow.Author.Needs.{needs}

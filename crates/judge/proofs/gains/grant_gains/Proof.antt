@@ -4,7 +4,7 @@ use borrow.Author.Tests.{eqb-true}
 use Rattle.reach.specs.Tables.{Sized}
 use Rattle.reach.proofs.Lists.{length-mapped}
 use Rattle.reach.proofs.Testing.{decides-eqb}
-use Rattle.judge.specs.Doing.{after}
+use Rattle.rules.specs.Doing.{after}
 use Rattle.judge.proofs.Gaining.{grant-found, grant-none}
 use mathlib.Core.Path.{subst}
 use Rattle.judge.specs.Rows.{FirstNew}

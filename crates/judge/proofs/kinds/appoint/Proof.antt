@@ -2,12 +2,12 @@
 use mathlib.Core.Path.{_≡_, refl, sym, ap, _∙_}
 use borrow.Author.Tests.{not-true, not-false}
 use Rattle.reach.specs.declared.Policy.{Policy}
-use Rattle.judge.specs.declared.Verdict.the-variants.{Done}
-use Rattle.judge.specs.declared.Request.the-variants.{Appoint}
-use Rattle.judge.specs.Authority.{may}
-use Rattle.judge.specs.Doing.{after}
-use Rattle.judge.specs.Refusals.{handOver, orphan}
-use Rattle.judge.specs.Judging.{done}
+use Rattle.rules.specs.declared.Verdict.the-variants.{Done}
+use Rattle.rules.specs.declared.Request.the-variants.{Appoint}
+use Rattle.rules.specs.Authority.{may}
+use Rattle.rules.specs.Doing.{after}
+use Rattle.rules.specs.Refusals.{handOver, orphan}
+use Rattle.rules.specs.Judging.{done}
 use Rattle.judge.specs.Stages.{refused}
 use Rattle.judge.proofs.Finishing.{finished-9, finished-10, finished-0}
 use borrow.Author.Needs.{needs}

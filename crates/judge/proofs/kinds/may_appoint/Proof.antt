@@ -1,6 +1,6 @@
 -- `may_appoint` is its definition: the two branches are its two cases.
 use borrow.Author.Tests.{eq-eqb, ne-eqb}
-use Rattle.judge.specs.Authority.{mayAppoint}
+use Rattle.rules.specs.Authority.{mayAppoint}
 use borrow.Author.Needs.{needs}
 use Rattle.judge.proofs.kinds.may_appoint.Statement.{statement}
 use Rattle.judge.proofs.kinds.may_appoint.Tie as tie

@@ -6,12 +6,12 @@ use Rattle.reach.specs.declared.Policy.{Policy}
 use Rattle.reach.specs.Tables.{Sized}
 use Rattle.reach.proofs.Lists.{length-mapped}
 use Rattle.reach.proofs.WordSets.{set-mask, set-not}
-use Rattle.judge.specs.declared.Verdict.the-variants.{Done}
-use Rattle.judge.specs.declared.Request.the-variants.{Put}
-use Rattle.judge.specs.Authority.{may}
-use Rattle.judge.specs.Doing.{after}
-use Rattle.judge.specs.Refusals.{orphan}
-use Rattle.judge.specs.Judging.{done}
+use Rattle.rules.specs.declared.Verdict.the-variants.{Done}
+use Rattle.rules.specs.declared.Request.the-variants.{Put}
+use Rattle.rules.specs.Authority.{may}
+use Rattle.rules.specs.Doing.{after}
+use Rattle.rules.specs.Refusals.{orphan}
+use Rattle.rules.specs.Judging.{done}
 use Rattle.judge.specs.Stages.{refused}
 use Rattle.judge.proofs.Surveyed.{held-set}
 use Rattle.judge.proofs.Handing.{hand-over-is}

@@ -1,14 +1,14 @@
 -- TAKE ends as its stage says: without authority, with an orphan, or done.
 use mathlib.Core.Path.{_≡_, refl, sym, ap, _∙_}
 use borrow.Author.Tests.{not-true, not-false}
-use Rattle.judge.specs.declared.Answer.{Answer}
-use Rattle.judge.specs.Authority.{may}
-use Rattle.judge.specs.Doing.{after}
-use Rattle.judge.specs.Refusals.{ownGain, handOver, orphan}
-use Rattle.judge.specs.Judging.{done}
+use Rattle.rules.specs.declared.Answer.{Answer}
+use Rattle.rules.specs.Authority.{may}
+use Rattle.rules.specs.Doing.{after}
+use Rattle.rules.specs.Refusals.{ownGain, handOver, orphan}
+use Rattle.rules.specs.Judging.{done}
 use Rattle.reach.specs.declared.Policy.{Policy}
-use Rattle.judge.specs.declared.Verdict.the-variants.{Done}
-use Rattle.judge.specs.declared.Request.the-variants.{Take}
+use Rattle.rules.specs.declared.Verdict.the-variants.{Done}
+use Rattle.rules.specs.declared.Request.the-variants.{Take}
 use Rattle.judge.specs.Stages.{refused}
 use mathlib.Core.Bool.{_&&_}
 use mathlib.Core.Path.{ap₂}

@@ -1,17 +1,17 @@
 use Rattle.reach.specs.declared.Place.{Place}
 use Rattle.reach.proofs.Deciding.{permitted-at, permitted-nothing}
-use Rattle.judge.specs.Judging.{doneBy}
+use Rattle.rules.specs.Judging.{doneBy}
 use Rattle.judge.specs.Stages.{refused}
-use Rattle.judge.specs.declared.Verdict.{Verdict}
+use Rattle.rules.specs.declared.Verdict.{Verdict}
 use mathlib.Core.Path.{_≡_, refl, sym, ap, _∙_}
 use borrow.Author.Tests.{not-true, not-false}
-use Rattle.judge.specs.declared.Answer.{Answer}
-use Rattle.judge.specs.Authority.{may}
-use Rattle.judge.specs.Doing.{after}
-use Rattle.judge.specs.Refusals.{ownGain, handOver, orphan}
-use Rattle.judge.specs.Judging.{done}
+use Rattle.rules.specs.declared.Answer.{Answer}
+use Rattle.rules.specs.Authority.{may}
+use Rattle.rules.specs.Doing.{after}
+use Rattle.rules.specs.Refusals.{ownGain, handOver, orphan}
+use Rattle.rules.specs.Judging.{done}
 use Rattle.reach.specs.declared.Policy.{Policy}
-use Rattle.judge.specs.declared.Request.the-variants.{Use}
+use Rattle.rules.specs.declared.Request.the-variants.{Use}
 use Rattle.judge.proofs.Finishing.{finished-9, finished-0}
 use borrow.Author.Needs.{needs}
 use Rattle.judge.proofs.kinds.use_target.Statement.{statement}

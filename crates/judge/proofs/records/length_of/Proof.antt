@@ -1,5 +1,5 @@
 use borrow.Author.Tests.{ne-eqb}
-use Rattle.judge.specs.Records.{lengthOf}
+use Rattle.rules.specs.Records.{lengthOf}
 use borrow.Author.Needs.{needs}
 use Rattle.judge.proofs.records.length_of.Statement.{statement}
 use Rattle.judge.proofs.records.length_of.Tie as tie

@@ -1,5 +1,5 @@
 use borrow.Author.Tests.{ne-eqb}
-use Rattle.judge.specs.Records.{request}
+use Rattle.rules.specs.Records.{request}
 use borrow.Author.Needs.{needs}
 use Rattle.judge.proofs.records.request_of.Statement.{statement}
 use Rattle.judge.proofs.records.request_of.Tie as tie

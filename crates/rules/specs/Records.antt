@@ -4,8 +4,8 @@ use Prim.Native.Nat.{ℕ}
 use lib.Dec.{eqb}
 use Rattle.frame.specs.Fields.{byte, kindField}
 use Rattle.reach.specs.Tests.{_⇒_∥_}
-use Rattle.judge.specs.declared.Request.{Request}
-use Rattle.judge.specs.declared.Request.the-variants.{Make, Put, Take, Appoint, Dismiss, Grant, Withdraw, Use}
+use Rattle.rules.specs.declared.Request.{Request}
+use Rattle.rules.specs.declared.Request.the-variants.{Make, Put, Take, Appoint, Dismiss, Grant, Withdraw, Use}
 
 -- The table of kinds: [01:records.2] MAKE 8, [01:records.3] PUT 7, [01:records.4] TAKE 7, [01:records.5] APPOINT 10, [01:records.6]
 -- DISMISS 6, [01:records.7] GRANT 9, [01:records.8] WITHDRAW 6, [01:records.9] USE 7. The length of a record of each kind:

@@ -11,16 +11,16 @@ use Rattle.reach.specs.Tests.{_⇒_∥_, Some}
 use Rattle.reach.specs.Privileges.{permitsBy}
 use Rattle.reach.proofs.Testing.{some-map, LowestAt}
 use Rattle.reach.proofs.Deciding.{permitted-lowest}
-use Rattle.judge.specs.declared.Request.the-variants.{Use}
-use Rattle.judge.specs.declared.Verdict.{Verdict}
-use Rattle.judge.specs.declared.Verdict.the-variants.{Done, DoneBy, Torn, Unknown, Misfit, Stranger, OffTheSheet, Absent, WrongSort, AlreadySo, NoAuthority, OwnGain, HandOver, Orphan}
-use Rattle.judge.specs.Records.{sender, request}
-use Rattle.judge.specs.Authority.{may}
-use Rattle.judge.specs.Refusals.{noAuthority}
-use Rattle.judge.specs.Judging.{codeOf, doneBy, done, verdict, accepted, judge}
-use Rattle.judge.proofs.Passing.{passes-not}
+use Rattle.rules.specs.declared.Request.the-variants.{Use}
+use Rattle.rules.specs.declared.Verdict.{Verdict}
+use Rattle.rules.specs.declared.Verdict.the-variants.{Done, DoneBy, Torn, Unknown, Misfit, Stranger, OffTheSheet, Absent, WrongSort, AlreadySo, NoAuthority, OwnGain, HandOver, Orphan}
+use Rattle.rules.specs.Records.{sender, request}
+use Rattle.rules.specs.Authority.{may}
+use Rattle.rules.specs.Refusals.{noAuthority}
+use Rattle.rules.specs.Judging.{codeOf, doneBy, done, verdict, accepted, judge}
+use Rattle.rules.proofs.Passing.{passes-not}
 use Rattle.reach.proofs.Testing.{decides-true}
-use Rattle.judge.proofs.Table.{accepted-decides, accepted-done, judge-verdict}
+use Rattle.rules.proofs.Table.{accepted-decides, accepted-done, judge-verdict}
 
 -- The refusal of each number.
 refusalOf : ℕ → Verdict

@@ -12,9 +12,9 @@ use Rattle.reach.specs.Reach.{Direct}
 use Rattle.reach.proofs.Testing.{written-cases}
 use Rattle.reach.proofs.Sorts.{counted-known}
 use Rattle.reach.proofs.Frames.{direct-same, put-direct, taken-direct, made-direct}
-use Rattle.judge.specs.declared.Request.{Request}
-use Rattle.judge.specs.declared.Request.the-variants.{Make, Put, Take, Appoint, Dismiss, Grant, Withdraw, Use}
-use Rattle.judge.specs.Allowing.{Standing, viewAfter, appointing, granting}
+use Rattle.rules.specs.declared.Request.{Request}
+use Rattle.rules.specs.declared.Request.the-variants.{Make, Put, Take, Appoint, Dismiss, Grant, Withdraw, Use}
+use Rattle.rules.specs.Allowing.{Standing, viewAfter, appointing, granting}
 
 clash : _≡_ {A = ℕ} 0 1 → ⊥
 clash e = omega arith

@@ -10,14 +10,14 @@ use Rattle.reach.specs.Tables.{counted, sort, stored, appointment, standing, ru
 use Rattle.reach.specs.Reach.{inUse, direct, chain, under}
 use Rattle.reach.specs.Privileges.{holdsBy, holds, administersBy, administers, permitsBy, askable, permitted, permitting, orphaned}
 use Rattle.reach.specs.Successors.{withBit, withoutBit, made, put, taken, appointed, ruled}
-use Rattle.judge.specs.declared.Answer.{Answer}
-use Rattle.judge.specs.Records.{lengthOf, request}
-use Rattle.judge.specs.Authority.{mayAppoint, may}
-use Rattle.judge.specs.Doing.{after}
-use Rattle.judge.specs.Gains.{gives, handsOver}
-use Rattle.judge.specs.Refusals.{torn, unknown, misfit, stranger, offTheSheet, absent, wrongSort, alreadySo, noAuthority, ownGain, handOver, orphan}
-use Rattle.judge.specs.Judging.{codeOf, citedOf, done, verdictOn, verdict, judge}
-use Rattle.judge.specs.Sample.{records, expected, further, furtherExpected, traps, trapsExpected, rows, rowsExpected}
+use Rattle.rules.specs.declared.Answer.{Answer}
+use Rattle.rules.specs.Records.{lengthOf, request}
+use Rattle.rules.specs.Authority.{mayAppoint, may}
+use Rattle.rules.specs.Doing.{after}
+use Rattle.rules.specs.Gains.{gives, handsOver}
+use Rattle.rules.specs.Refusals.{torn, unknown, misfit, stranger, offTheSheet, absent, wrongSort, alreadySo, noAuthority, ownGain, handOver, orphan}
+use Rattle.rules.specs.Judging.{codeOf, citedOf, done, verdictOn, verdict, judge}
+use Rattle.rules.specs.Sample.{records, expected, further, furtherExpected, traps, trapsExpected, rows, rowsExpected}
 
 -- Code and cited of an answer.
 pub line : Answer → ℕ × ℕ

@@ -11,13 +11,13 @@ use Rattle.reach.specs.declared.Place.the-variants.{At, Nothing}
 use Rattle.reach.specs.Tests.{_⇒_∥_, Decides}
 use Rattle.reach.specs.Privileges.{permitting}
 use Rattle.reach.proofs.Testing.{decides-as}
-use Rattle.judge.specs.declared.Request.{Request}
-use Rattle.judge.specs.declared.Request.the-variants.{Make, Put, Take, Appoint, Dismiss, Grant, Withdraw, Use}
-use Rattle.judge.specs.declared.Verdict.{Verdict}
-use Rattle.judge.specs.Records.{sender, request}
-use Rattle.judge.specs.Doing.{after}
-use Rattle.judge.specs.Refusals.{torn, unknown, misfit, stranger, offTheSheet, absent, wrongSort, alreadySo, noAuthority, ownGain, handOver, orphan}
-use Rattle.judge.specs.Judging.{codeOf, doneBy, done, verdictOn, verdict, accepted, judge}
+use Rattle.rules.specs.declared.Request.{Request}
+use Rattle.rules.specs.declared.Request.the-variants.{Make, Put, Take, Appoint, Dismiss, Grant, Withdraw, Use}
+use Rattle.rules.specs.declared.Verdict.{Verdict}
+use Rattle.rules.specs.Records.{sender, request}
+use Rattle.rules.specs.Doing.{after}
+use Rattle.rules.specs.Refusals.{torn, unknown, misfit, stranger, offTheSheet, absent, wrongSort, alreadySo, noAuthority, ownGain, handOver, orphan}
+use Rattle.rules.specs.Judging.{codeOf, doneBy, done, verdictOn, verdict, accepted, judge}
 
 -- Each check by its name.
 pub record Passed (p : Policy) (b : List ℕ) (u : ℕ) (q : Request) : Type 0 where

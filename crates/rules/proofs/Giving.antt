@@ -12,9 +12,9 @@ use Rattle.reach.specs.Privileges.{owner, manager, Holds, Owns, Manages, Admini
 use Rattle.reach.proofs.Testing.{decides-as, decides-and, decides-or, decides-not, decides-some, fails, refuted}
 use Rattle.reach.proofs.Chains.{in-use-below, decides-in-use}
 use Rattle.reach.proofs.Deciding.{user-below, holds-decides, administers-decides, permitted-decides, orphaned-decides}
-use Rattle.judge.specs.Gains.{gives, handsOver}
-use Rattle.judge.specs.Allowing.{Privilege, owning, managing, administering, permission, Has, There, Gives, HandsOver, Owned}
-use Rattle.judge.proofs.Passing.{Passes}
+use Rattle.rules.specs.Gains.{gives, handsOver}
+use Rattle.rules.specs.Allowing.{Privilege, owning, managing, administering, permission, Has, There, Gives, HandsOver, Owned}
+use Rattle.rules.proofs.Passing.{Passes}
 
 module _ (p n : Policy) where
   -- He has it after and lacked it before.

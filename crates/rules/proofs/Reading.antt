@@ -8,10 +8,10 @@ use Rattle.reach.specs.Tables.{Sized, view}
 use Rattle.reach.specs.Reach.{Group}
 use Rattle.reach.proofs.Chains.{in-use-below}
 use Rattle.reach.proofs.AsRead.{view-made, view-put, view-taken, view-appointed, view-dismissed, view-granted, view-withdrawn, sized-made, sized-put, sized-taken, sized-appointed, sized-ruled}
-use Rattle.judge.specs.declared.Request.{Request}
-use Rattle.judge.specs.declared.Request.the-variants.{Make, Put, Take, Appoint, Dismiss, Grant, Withdraw, Use}
-use Rattle.judge.specs.Doing.{after}
-use Rattle.judge.specs.Allowing.{Fits, viewAfter}
+use Rattle.rules.specs.declared.Request.{Request}
+use Rattle.rules.specs.declared.Request.the-variants.{Make, Put, Take, Appoint, Dismiss, Grant, Withdraw, Use}
+use Rattle.rules.specs.Doing.{after}
+use Rattle.rules.specs.Allowing.{Fits, viewAfter}
 
 group-on : (p : Policy) (g : ℕ) → Group (view p) g → g < 64
 group-on p g e = in-use-below p g (omega (arith, e))

@@ -7,8 +7,8 @@ use Rattle.reach.specs.declared.Appointment.{Appointment}
 use Rattle.reach.specs.Tests.{_⇒_∥_}
 use Rattle.reach.specs.Tables.{appointment, rule}
 use Rattle.reach.specs.Privileges.{administrator, owns, manages, administers, permitted}
-use Rattle.judge.specs.declared.Request.{Request}
-use Rattle.judge.specs.declared.Request.the-variants.{Make, Put, Take, Appoint, Dismiss, Grant, Withdraw, Use}
+use Rattle.rules.specs.declared.Request.{Request}
+use Rattle.rules.specs.declared.Request.the-variants.{Make, Put, Take, Appoint, Dismiss, Grant, Withdraw, Use}
 
 -- Owns or manages.
 abbrev pub governs : Policy → ℕ → ℕ → Bool

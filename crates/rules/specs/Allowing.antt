@@ -14,9 +14,9 @@ use Rattle.reach.specs.Tables.{View, counted}
 use Rattle.reach.specs.Reach.{InUse, Group, User, Target}
 use Rattle.reach.specs.Privileges.{administrator, Owns, Manages, Administers, Permitted}
 use Rattle.reach.specs.Changes.{viewMade, viewPut, viewTaken, viewAppointed, viewDismissed, viewGranted, viewWithdrawn}
-use Rattle.judge.specs.declared.Request.{Request}
-use Rattle.judge.specs.declared.Request.the-variants.{Make, Put, Take, Appoint, Dismiss, Grant, Withdraw, Use}
-use Rattle.judge.specs.Records.{lengthOf}
+use Rattle.rules.specs.declared.Request.{Request}
+use Rattle.rules.specs.declared.Request.the-variants.{Make, Put, Take, Appoint, Dismiss, Grant, Withdraw, Use}
+use Rattle.rules.specs.Records.{lengthOf}
 
 -- ---- Checks 1 to 3
 

@@ -9,19 +9,19 @@ use Rattle.reach.specs.Tests.{Decides}
 use Rattle.reach.specs.Tables.{View, Sized, view}
 use Rattle.reach.specs.Privileges.{orphaned}
 use Rattle.reach.proofs.Testing.{decides-as}
-use Rattle.judge.specs.declared.Request.{Request}
-use Rattle.judge.specs.declared.Request.the-variants.{Make, Put, Take, Appoint, Dismiss, Grant, Withdraw, Use}
-use Rattle.judge.specs.Records.{sender, request}
-use Rattle.judge.specs.Doing.{after}
-use Rattle.judge.specs.Refusals.{torn, unknown, misfit, offTheSheet, absent, wrongSort, alreadySo, ownGain, handOver, orphan}
-use Rattle.judge.specs.Gains.{gives, handsOver}
-use Rattle.judge.specs.Judging.{verdict, accepted, judge}
-use Rattle.judge.specs.Allowing.{WellFormed, Gives, HandsOver, Owned, Fits, viewAfter, Clean, Allowed}
-use Rattle.judge.proofs.Passing.{Passes, passes-as, passes-all, passes-or, passes-of}
-use Rattle.judge.proofs.Giving.{gives-decides, hands-over-decides, orphaned-passes}
-use Rattle.judge.proofs.Table.{Passed, accepted-decides, accepted-after, refused-same}
-use Rattle.judge.proofs.Fitting.{well-formed, known-sender, fits, authorised}
-use Rattle.judge.proofs.Reading.{view-after, sized-after}
+use Rattle.rules.specs.declared.Request.{Request}
+use Rattle.rules.specs.declared.Request.the-variants.{Make, Put, Take, Appoint, Dismiss, Grant, Withdraw, Use}
+use Rattle.rules.specs.Records.{sender, request}
+use Rattle.rules.specs.Doing.{after}
+use Rattle.rules.specs.Refusals.{torn, unknown, misfit, offTheSheet, absent, wrongSort, alreadySo, ownGain, handOver, orphan}
+use Rattle.rules.specs.Gains.{gives, handsOver}
+use Rattle.rules.specs.Judging.{verdict, accepted, judge}
+use Rattle.rules.specs.Allowing.{WellFormed, Gives, HandsOver, Owned, Fits, viewAfter, Clean, Allowed}
+use Rattle.rules.proofs.Passing.{Passes, passes-as, passes-all, passes-or, passes-of}
+use Rattle.rules.proofs.Giving.{gives-decides, hands-over-decides, orphaned-passes}
+use Rattle.rules.proofs.Table.{Passed, accepted-decides, accepted-after, refused-same}
+use Rattle.rules.proofs.Fitting.{well-formed, known-sender, fits, authorised}
+use Rattle.rules.proofs.Reading.{view-after, sized-after}
 
 -- ---- Checks 10 to 12
 

@@ -17,13 +17,13 @@ use Rattle.reach.specs.Privileges.{owner, manager, administrator, Owns, Manages
 use Rattle.reach.proofs.Testing.{decides-as, decides-and, decides-or, decides-eqb, decides-ltb, decides-true, refuted, fails}
 use Rattle.reach.proofs.Chains.{in-use-below, decides-in-use, decides-direct}
 use Rattle.reach.proofs.Deciding.{decides-user, user-below, holds-decides, administers-decides, permitted-decides}
-use Rattle.judge.specs.declared.Request.{Request}
-use Rattle.judge.specs.declared.Request.the-variants.{Make, Put, Take, Appoint, Dismiss, Grant, Withdraw, Use}
-use Rattle.judge.specs.Records.{lengthOf}
-use Rattle.judge.specs.Authority.{governs, mayAppoint, may}
-use Rattle.judge.specs.Refusals.{torn, unknown, misfit, stranger, oneToThree, offTheSheet, empty, absent, wrongSort, alreadySo, noAuthority}
-use Rattle.judge.specs.Allowing.{WellFormed, Governs, MayAppoint, as-owner, as-manager, Authority, Standing, Fits}
-use Rattle.judge.proofs.Passing.{Passes, passes-as, passes-all, passes-or, passes-not, passes-of, passes-ltb, passes-where, passes-either, decides-leb}
+use Rattle.rules.specs.declared.Request.{Request}
+use Rattle.rules.specs.declared.Request.the-variants.{Make, Put, Take, Appoint, Dismiss, Grant, Withdraw, Use}
+use Rattle.rules.specs.Records.{lengthOf}
+use Rattle.rules.specs.Authority.{governs, mayAppoint, may}
+use Rattle.rules.specs.Refusals.{torn, unknown, misfit, stranger, oneToThree, offTheSheet, empty, absent, wrongSort, alreadySo, noAuthority}
+use Rattle.rules.specs.Allowing.{WellFormed, Governs, MayAppoint, as-owner, as-manager, Authority, Standing, Fits}
+use Rattle.rules.proofs.Passing.{Passes, passes-as, passes-all, passes-or, passes-not, passes-of, passes-ltb, passes-where, passes-either, decides-leb}
 
 -- ---- Checks 1 to 4
 

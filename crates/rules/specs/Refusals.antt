@@ -12,12 +12,12 @@ use Rattle.reach.specs.Tests.{_⇒_∥_}
 use Rattle.reach.specs.Tables.{appointment, standing, rule}
 use Rattle.reach.specs.Reach.{inUse, isGroup, isUser, isTarget, direct}
 use Rattle.reach.specs.Privileges.{administrator, orphaned}
-use Rattle.judge.specs.declared.Request.{Request}
-use Rattle.judge.specs.declared.Request.the-variants.{Make, Put, Take, Appoint, Dismiss, Grant, Withdraw, Use}
-use Rattle.judge.specs.Records.{lengthOf}
-use Rattle.judge.specs.Authority.{may}
-use Rattle.judge.specs.Doing.{after}
-use Rattle.judge.specs.Gains.{gives, handsOver}
+use Rattle.rules.specs.declared.Request.{Request}
+use Rattle.rules.specs.declared.Request.the-variants.{Make, Put, Take, Appoint, Dismiss, Grant, Withdraw, Use}
+use Rattle.rules.specs.Records.{lengthOf}
+use Rattle.rules.specs.Authority.{may}
+use Rattle.rules.specs.Doing.{after}
+use Rattle.rules.specs.Gains.{gives, handsOver}
 
 -- [01:no.1] torn: "fewer than 4 bytes, or their number differs from the length field"
 unfoldable pub torn : List ℕ → Bool

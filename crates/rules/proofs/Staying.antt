@@ -12,9 +12,9 @@ use Rattle.reach.specs.Reach.{Direct}
 use Rattle.reach.specs.Changes.{viewAppointed, viewRuled}
 use Rattle.reach.proofs.Testing.{written-cases}
 use Rattle.reach.proofs.Frames.{direct-same, direct-put, direct-taken, direct-made, direct-new-made, direct-new-put}
-use Rattle.judge.specs.declared.Request.{Request}
-use Rattle.judge.specs.declared.Request.the-variants.{Make, Put, Take, Appoint, Dismiss, Grant, Withdraw, Use}
-use Rattle.judge.specs.Allowing.{Standing, Vacant, viewAfter, Allowed, appointing, granting}
+use Rattle.rules.specs.declared.Request.{Request}
+use Rattle.rules.specs.declared.Request.the-variants.{Make, Put, Take, Appoint, Dismiss, Grant, Withdraw, Use}
+use Rattle.rules.specs.Allowing.{Standing, Vacant, viewAfter, Allowed, appointing, granting}
 use Rattle.reach.proofs.Carrying.{known-kind}
 
 -- ---- Appointments
