@@ -5,6 +5,7 @@ ghost use Rattle.rules.specs.Judging.{judge};
 mod checks;
 mod gains;
 mod kinds;
+mod numbers;
 mod records;
 mod rows;
 
@@ -14,6 +15,8 @@ use checks::unknown;
 use frame::byte;
 use kinds::decide;
 use kinds::refuse;
+pub use numbers::cited_of;
+pub use numbers::code_of;
 use reach::Policy;
 use records::request_of;
 use rules::Answer;

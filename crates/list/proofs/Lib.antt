@@ -9,3 +9,6 @@ pub mod Decimals
 pub mod Numerals
 pub mod Printing
 pub mod Room
+pub mod Handed
+pub mod Running
+pub mod Reporting

@@ -6,7 +6,8 @@ use Prim.Native.Nat.{ℕ, zero, suc, _+_, _-_, _*_, _/_, _%_, _≤_, _<_}
 use native.Mathlib.Decide.{decLt}
 use native.Mathlib.Omega.{arith}
 use lib.ListN.{length, getD, length-append}
-use Rattle.list.specs.Text.{Bytes, decimal, AllDigits, valueFrom, DecimalOf}
+use Rattle.list.specs.Runs.{Bytes}
+use Rattle.list.specs.Text.{decimal, AllDigits, valueFrom, DecimalOf}
 use Rattle.list.proofs.Decimals.{decimal-digit, decimal-more}
 
 -- Digits and a digit more are digits.

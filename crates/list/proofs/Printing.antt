@@ -5,7 +5,8 @@ use mathlib.Core.List.{List, [], _∷_, _++_, append-assoc, append-nil}
 use Prim.Native.Nat.{ℕ, suc, _+_}
 use native.Mathlib.Nat.{add-zero, zero-add, add-suc, suc-add}
 use lib.ListN.{length}
-use Rattle.list.specs.Text.{Bytes, digits, decimal, line, lines, tornPlace, Wrote}
+use Rattle.list.specs.Runs.{Bytes}
+use Rattle.list.specs.Text.{digits, decimal, line, lines, tornPlace, Wrote}
 use Rattle.list.proofs.Writing.{wrote-as, wrote-then}
 
 -- A line of document 01's sample, in bytes: 10 9 255.

@@ -1,5 +1,8 @@
--- A list of requests, the lines of authority in it, demand 3, and the text of the answers.
+-- A list of requests and how it is handed in, the lines of authority in it, demand 3, and what the program prints.
 pub mod Runs
+pub mod Parts
+pub mod Filling
 pub mod Lines
 pub mod Demand
 pub mod Text
+pub mod Report

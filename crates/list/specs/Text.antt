@@ -1,12 +1,9 @@
 -- The text that the program prints, and what it means that a buffer holds it.
 use mathlib.Core.Path.{_≡_}
 use mathlib.Core.List.{List, [], _∷_, _++_}
-use Prim.Native.Nat.{ℕ, zero, suc, _+_, _-_, _*_, _/_, _%_, _≤_}
-use lib.ListN.{length, getD, take}
-
--- Bytes, as numbers.
-abbrev pub Bytes : Type 0
-Bytes = List ℕ
+use Prim.Native.Nat.{ℕ, zero, suc, _+_, _-_, _*_, _/_, _%_, _≤_, min}
+use lib.ListN.{length, getD, take, drop}
+use Rattle.list.specs.Runs.{Bytes}
 
 -- The last digit of x; the byte of the digit 0 is 48.
 abbrev pub lastDigit : ℕ → ℕ
@@ -60,6 +57,14 @@ pub record Holds (buffer : Bytes) (n : ℕ) (text : Bytes) : Type 0 where
   pub same : take n buffer ≡ take (length buffer) text
 
 -- A buffer that held some text up to n became buffer′, of the same length, which holds that text and behind it the one added, up to n′.
+-- What lies behind that is as it was.
 pub record Wrote (buffer : Bytes) (n : ℕ) (added buffer′ : Bytes) (n′ : ℕ) : Type 0 where
   pub length-kept : length buffer′ ≡ length buffer
   pub extends : (text : Bytes) → Holds buffer n text → Holds buffer′ n′ (text ++ added)
+  pub onward : n ≤ n′
+  pub rest-kept : drop n′ buffer′ ≡ drop n′ buffer
+
+-- The text stands at the start of the buffer, cut off where the buffer ends, behind it what stood there before; n counts its bytes there.
+pub record Printed (buffer text buffer′ : Bytes) (n : ℕ) : Type 0 where
+  pub bytes : buffer′ ≡ take (length buffer) text ++ drop (length text) buffer
+  pub count : n ≡ min (length buffer) (length text)

@@ -1,2 +1,17 @@
-// A list of requests: its run, what holds of every list (demand 3), in specs/ and proofs/, and the text of its answers.
+// A list of requests: its run, what holds of every list (demand 3), and what the program prints.
+mod program;
+mod run;
 mod text;
+
+pub use program::output;
+pub use program::report;
+use reach::Policy;
+pub use run::run_from;
+pub use run::run_list;
+
+// What a list leaves: whether it ran, which it does if there is room for its answers; and the last policy, which is the first one if it
+// did not.
+pub struct Outcome {
+    pub ran: bool,
+    pub policy: Policy,
+}

@@ -36,3 +36,16 @@ pub fn put_line(out: &mut [u8], n: usize, index: usize, code: u8, cited: u8) -> 
     let after_cited = put_number(out, at_cited, cited as usize);
     put_byte(out, after_cited, b'\n')
 }
+
+// The bytes of a text.
+pub fn put_bytes(out: &mut [u8], n: usize, text: &[u8]) -> usize
+    ensures { λ r. ⌜ Wrote (now (out .entry)) n (now (text .entry)) (now (out .exit)) r ⌝ }
+{
+    let mut at = n;
+    let mut i: usize = 0;
+    while i < text.len() {
+        at = put_byte(out, at, text[i]);
+        i = i + 1;
+    }
+    at
+}

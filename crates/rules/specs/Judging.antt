@@ -1,6 +1,6 @@
 -- The judge. [01:no.13] "Tested in order; the first that applies is returned, cited 255, sheet unchanged."
 use mathlib.Core.Bool.{Bool}
-use mathlib.Core.List.{List}
+use mathlib.Core.List.{List, [], _∷_}
 use Prim.Native.Nat.{ℕ}
 use lib.Dec.{eqb}
 use Rattle.reach.specs.declared.Policy.{Policy}
@@ -93,3 +93,12 @@ accepted v = eqb (codeOf v) 0
 unfoldable pub judge : Policy → List ℕ → Answer
 judge p b =
     let v = verdict p b in record { policy = accepted v ⇒ after p (request b) ∥ p; verdict = v }
+
+-- [01:runner.10] ".. per record: .. code, cited." The two numbers of a verdict.
+abbrev pub numbersOf : Verdict → ℕ × ℕ
+numbersOf v = (codeOf v, citedOf v)
+
+-- Those of each record of a list: the first is judged on p, and each later one on the policy that the judge returned for the one before.
+unfoldable pub answers : Policy → List (List ℕ) → List (ℕ × ℕ)
+answers p [] = []
+answers p (b ∷ bs) = let a = judge p b in numbersOf (a .verdict) ∷ answers (a .policy) bs

@@ -1,0 +1,120 @@
+-- What the loop of `report` keeps: the lines so far stand in the buffer, and those to come are of the answers from the current policy and
+-- position on. Each record moves one answer over; a torn place is the last; at the end none is to come.
+use mathlib.Core.Path.{_≡_, refl, sym, ap, ap₂, subst, _∙_}
+use mathlib.Core.List.{List, [], _∷_, _++_, append-assoc, append-nil}
+use Prim.Native.Nat.{ℕ, suc, _+_, _-_, _≤_, _<_, zero-le}
+use native.Mathlib.Omega.{arith}
+use lib.ListN.{length, take, drop, length-append}
+use borrow.Author.Tests.{lt-ltb, le-ltb}
+use Rattle.reach.specs.declared.Policy.{Policy}
+use Rattle.reach.specs.Tests.{_⇒_∥_}
+use Rattle.reach.specs.Tables.{initial}
+use Rattle.frame.specs.declared.Step.the-variants.{Record, Torn, End}
+use Rattle.frame.specs.Reading.{stepAt, recordBytes, recordsFrom, tornFrom}
+use Rattle.frame.proofs.Steps.{Found, step-record, step-torn}
+use Rattle.frame.proofs.Records.{records-of-record, torn-of-record, records-of-torn, torn-of-torn, records-of-end, torn-of-end}
+use Rattle.rules.specs.declared.Answer.{Answer}
+use Rattle.rules.specs.Judging.{codeOf, citedOf, judge, numbersOf, answers}
+use Rattle.list.specs.Runs.{Bytes}
+use Rattle.list.specs.Text.{line, lines, tornPlace, Wrote, Printed}
+use Rattle.list.specs.Report.{answersFrom, report, tooLong, output}
+use Rattle.list.proofs.Writing.{wrote-none, wrote-as, printed-of-wrote}
+use Rattle.list.proofs.Printing.{lines-none, wrote-next-line}
+
+-- ---- The answers from a position on go by the step there
+
+module _ (p : Policy) (b : Bytes) (at : ℕ) where
+  pub answers-of-record : (start len next : ℕ) → stepAt b at ≡ Record start len next
+      → answersFrom p b at
+      ≡ numbersOf (judge p (recordBytes b start len) .verdict) ∷ answersFrom (judge p (recordBytes b start len) .policy) b next
+  unfolding answersFrom answers
+  answers-of-record start len next e = rw (records-of-record b at start len next e, torn-of-record b at start len next e)
+
+  pub answers-of-torn : stepAt b at ≡ Torn → answersFrom p b at ≡ tornPlace ∷ []
+  unfolding answersFrom answers
+  answers-of-torn e = rw (records-of-torn b at e, torn-of-torn b at e)
+
+  pub answers-of-end : stepAt b at ≡ End → answersFrom p b at ≡ []
+  unfolding answersFrom answers
+  answers-of-end e = rw (records-of-end b at e, torn-of-end b at e)
+
+-- ---- The loop
+
+module _ (b out₀ : Bytes) where
+  pub record Reporting (out : Bytes) (p : Policy) (at index n : ℕ) : Type 0 where
+    pub so-far : List (ℕ × ℕ)
+    pub count : length so-far ≡ index
+    pub wrote : Wrote out₀ 0 (lines 0 so-far) out n
+    pub to-come : so-far ++ answersFrom p b at ≡ answersFrom initial b 0
+    pub index-low : index ≤ at
+    pub within : at ≤ length b
+
+  pub reporting-start : (p : Policy) → p ≡ initial → Reporting out₀ p 0 0 0
+  reporting-start p e = record {
+    so-far = [];
+    count = refl;
+    wrote = wrote-as (sym (lines-none 0)) (wrote-none out₀ 0);
+    to-come = rw e;
+    index-low = zero-le;
+    within = zero-le;
+  }
+
+  module _ {out : Bytes} {p : Policy} {at index n : ℕ} (s : Reporting out p at index n) where
+    -- The next line, of any answer, follows those so far.
+    next-line : {out′ : Bytes} {r : ℕ} (code cited : ℕ) → Wrote out n (line index code cited) out′ r
+        → Wrote out₀ 0 (lines 0 (s .so-far ++ ((code, cited) ∷ []))) out′ r
+    next-line {out′} {r} code cited w =
+        wrote-next-line (s .so-far) code cited (s .wrote)
+        (subst (λ (k : ℕ). Wrote out n (line k code cited) out′ r) (sym (s .count)) w)
+
+    -- All that is written is the report, once no answer is to come.
+    whole : {out′ : Bytes} {r : ℕ} (l : List (ℕ × ℕ)) → l ≡ answersFrom initial b 0 → Wrote out₀ 0 (lines 0 l) out′ r
+        → Printed out₀ (report b) out′ r
+    unfolding report
+    whole l e w = printed-of-wrote (wrote-as (ap (lines 0) e) w)
+
+    pub reporting-record : {out′ : Bytes} {r start len next : ℕ} (a : Answer) (code cite : ℕ) → stepAt b at ≡ Record start len next
+        → a ≡ judge p (take (next - start) (drop start b))
+        → code ≡ codeOf (a .verdict) → cite ≡ citedOf (a .verdict)
+        → Wrote out n (line index code cite) out′ r
+        → Reporting out′ (a .policy) next (index + 1) r
+    reporting-record {start = start} {len} {next} a code cite e j f g w =
+        let found : Found b at start len next = step-record b at start len next e in
+        let long : next - start ≡ len = omega (arith, found .ends) in
+        record {
+          so-far = s .so-far ++ ((code, cite) ∷ []);
+          count = simp (length-append, s .count);
+          wrote = next-line code cite w;
+          to-come =
+              rw (append-assoc, f, g, j, long)
+              (ap (λ (l : List (ℕ × ℕ)). s .so-far ++ l) (sym (answers-of-record p b at start len next e)) ∙ s .to-come);
+          index-low = omega (arith, s .index-low, found .long);
+          within = found .within;
+        }
+
+    pub reporting-torn : {out′ : Bytes} {r : ℕ} → stepAt b at ≡ Torn → Wrote out n (line index 1 255) out′ r
+        → Printed out₀ (report b) out′ r
+    reporting-torn e w =
+        whole
+        (s .so-far ++ (tornPlace ∷ []))
+        (ap (λ (l : List (ℕ × ℕ)). s .so-far ++ l) (sym (answers-of-torn p b at e)) ∙ s .to-come)
+        (next-line 1 255 w)
+
+    pub reporting-end : stepAt b at ≡ End → Printed out₀ (report b) out n
+    reporting-end e =
+        whole
+        (s .so-far)
+        (sym (append-nil (s .so-far)) ∙ ap (λ (l : List (ℕ × ℕ)). s .so-far ++ l) (sym (answers-of-end p b at e)) ∙ s .to-come)
+        (s .wrote)
+
+-- ---- The limit on the input
+
+-- An input past the limit.
+pub printed-too-long : (b : Bytes) {out out′ : Bytes} {r : ℕ} → 65536 < length b → Wrote out 0 tooLong out′ r → Printed out (output b) out′ r
+unfolding output
+printed-too-long b h w = rw (lt-ltb 65536 (length b) h) (printed-of-wrote w)
+
+-- An input within it.
+pub printed-report : (b : Bytes) {out out′ : Bytes} {r : ℕ} → length b ≤ 65536 → Printed out (report b) out′ r → Printed out (output b) out′ r
+unfolding output
+printed-report b h q = rw (le-ltb 65536 (length b) h) q

@@ -1,0 +1,44 @@
+-- `judge_part` judges the part: the slice between the two places where it lies in the bytes, and no bytes where it does not.
+use mathlib.Core.Path.{sym, ap, _∙_}
+use mathlib.Core.Logic.{⊎-elim}
+use Rattle.rules.specs.Judging.{judge}
+use Rattle.list.proofs.Handed.{part-within, part-past, part-falling}
+use borrow.Author.Needs.{needs}
+use Rattle.list.proofs.run.judge_part.Statement.{statement}
+use Rattle.list.proofs.run.judge_part.Tie as tie
+use Rattle.list.proofs.run.judge_part.Reads as reads
+use Rattle.list.proofs.run.judge_part.Lts as lts
+use Rattle.judge.proofs.judge.Reads as judge-reads
+
+part-judge-start : tie.Need-part-judge-start
+part-judge-start c = search needs
+
+part-judge-end : tie.Need-part-judge-end
+part-judge-end c = search needs
+
+judge-requires : tie.Need-judge-requires
+judge-requires c κs = search needs
+
+returns : tie.Need-returns
+returns c = c .judge .ensures ∙ ap (judge _) (sym (part-within _ _ _ (c .before .before .before .if1 .taken) (c .before .before .if2 .taken)))
+
+slice-aggregate-judge : tie.Need-slice-aggregate-judge
+slice-aggregate-judge c = search needs
+
+judge-requires-2 : tie.Need-judge-requires-2
+judge-requires-2 c κs = search needs
+
+returns-2 : tie.Need-returns-2
+returns-2 c = c .judge2 .ensures ∙ ap (judge _) (sym (⊎-elim (λ w. part-past _ _ _ (w .1 .left)) (λ w. part-falling _ _ _ (w .left)) (c .before .before .if1 .came)))
+
+pub judge-part-spec : {M : Type 1} → statement M
+judge-part-spec =
+    tie.close
+    (tie.spec
+    part-judge-start
+    part-judge-end
+    judge-requires
+    returns
+    slice-aggregate-judge
+    judge-requires-2
+    returns-2)

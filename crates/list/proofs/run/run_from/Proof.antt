@@ -1,0 +1,91 @@
+-- `run_from` runs the list: its loop keeps `Running`, which starts with nothing done and ends with nothing to come; a buffer that is too
+-- short is refused before the loop.
+use Prim.Native.Nat.{_-_}
+use native.Mathlib.Omega.{arith}
+use lib.ListN.{length}
+use Rattle.list.proofs.Running.{Running, running-start, running-step, running-end, running-codes, running-cited, too-few-codes, too-few-cited}
+use borrow.Author.Needs.{needs}
+use Rattle.list.proofs.run.run_from.Statement.{statement}
+use Rattle.list.proofs.run.run_from.Tie as tie
+use Rattle.list.proofs.run.run_from.Reads as reads
+use Rattle.list.proofs.run.run_from.Lts as lts
+use Rattle.judge.proofs.cited_of.Reads as cited-of-reads
+use Rattle.judge.proofs.code_of.Reads as code-of-reads
+use Rattle.list.proofs.run.judge_part.Reads as judge-part-reads
+
+abbrev Inv-loop : tie.InvT-loop
+Inv-loop bytes ends codes₀ cited₀ current₀ start₀ i₀ codes cited current start i = Running bytes ends codes₀ cited₀ current₀ codes cited current start i
+
+abbrev μ-loop : tie.MeasureT-loop
+μ-loop bytes ends codes₀ cited₀ current₀ start₀ i₀ codes cited current start i = length ends - i
+
+returns : tie.Need-returns Inv-loop μ-loop
+returns c = too-few-codes _ _ _ _ _ (c .if1 .taken)
+
+returns-2 : tie.Need-returns-2 Inv-loop μ-loop
+returns-2 c = too-few-cited _ _ _ _ _ (c .if2 .taken)
+
+loop-holds : tie.Need-loop-holds Inv-loop μ-loop
+loop-holds c = running-start _ _ _ _ _ (c .before .if1 .left) (c .if2 .left)
+
+mul-end : tie.Need-mul-end Inv-loop μ-loop
+mul-end c = search needs
+
+shared-slice-read-end : tie.Need-shared-slice-read-end Inv-loop μ-loop
+shared-slice-read-end c = search needs
+
+judge-part-requires : tie.Need-judge-part-requires Inv-loop μ-loop
+judge-part-requires c κs = search needs
+
+code-of-requires : tie.Need-code-of-requires Inv-loop μ-loop
+code-of-requires c κs = search needs
+
+slice-write-codes : tie.Need-slice-write-codes Inv-loop μ-loop
+slice-write-codes c = omega (arith, c .before .before .before .loop-test .taken, c .before .before .before .before .loop .inv .codes-room, running-codes _ _ _ _ _ (c .before .before .before .before .loop .inv))
+
+cited-of-requires : tie.Need-cited-of-requires Inv-loop μ-loop
+cited-of-requires c κs = search needs
+
+slice-write-cited : tie.Need-slice-write-cited Inv-loop μ-loop
+slice-write-cited c = omega (arith, c .before .before .before .before .loop-test .taken, c .before .before .before .before .before .loop .inv .cited-room, running-cited _ _ _ _ _ (c .before .before .before .before .before .loop .inv))
+
+add-i : tie.Need-add-i Inv-loop μ-loop
+add-i c = search needs
+
+loop-less : tie.Need-loop-less Inv-loop μ-loop
+loop-less c = search needs
+
+loop-again : tie.Need-loop-again Inv-loop μ-loop
+loop-again c = running-step _ _ _ _ _ (c .before .before .before .before .before .before .loop .inv) (c .before .before .before .before .before .loop-test .taken) _ _ _ (c .before .before .before .judge-part .ensures) (c .before .before .code-of .ensures) (c .before .cited-of .ensures)
+
+same-length : tie.Need-same-length Inv-loop μ-loop
+same-length c = running-codes _ _ _ _ _ (c .before .loop .inv)
+
+same-length-2 : tie.Need-same-length-2 Inv-loop μ-loop
+same-length-2 c = running-cited _ _ _ _ _ (c .before .loop .inv)
+
+returns-3 : tie.Need-returns-3 Inv-loop μ-loop
+returns-3 c = running-end _ _ _ _ _ (c .before .loop .inv) (c .loop-test .left)
+
+pub run-from-spec : {M : Type 1} → statement M
+run-from-spec =
+    tie.close
+    (tie.spec
+    Inv-loop
+    μ-loop
+    returns
+    returns-2
+    loop-holds
+    mul-end
+    shared-slice-read-end
+    judge-part-requires
+    code-of-requires
+    slice-write-codes
+    cited-of-requires
+    slice-write-cited
+    add-i
+    loop-less
+    loop-again
+    same-length
+    same-length-2
+    returns-3)

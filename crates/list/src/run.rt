@@ -1,0 +1,74 @@
+// The run of a whole list, which is handed in as bytes and the ends of its records.
+ghost use mathlib.Core.Path.{_≡_};
+ghost use Rattle.reach.specs.Tables.{initial};
+ghost use Rattle.rules.specs.Judging.{judge};
+ghost use Rattle.list.specs.Parts.{part, handed};
+ghost use Rattle.list.specs.Filling.{RunInto};
+ghost use Rattle.list.specs.Demand.{FoundingDemand3};
+use crate::Outcome;
+use judge::cited_of;
+use judge::code_of;
+use judge::judge;
+use reach::Policy;
+use rules::Answer;
+
+// The answer to the record between two places of the bytes.
+fn judge_part(p: Policy, bytes: &[u8], start: usize, end: usize) -> Answer
+    ensures { λ r. ⌜ r ≡ judge p (part (now (bytes .entry)) start end) ⌝ }
+{
+    if start <= end {
+        if end <= bytes.len() {
+            return judge(p, &bytes[start..end]);
+        }
+    }
+    judge(p, &bytes[..0])
+}
+
+// Runs a list from any policy.
+pub fn run_from(
+    p: Policy,
+    bytes: &[u8],
+    ends: &[usize],
+    codes: &mut [u8],
+    cited: &mut [u8],
+) -> Outcome
+    ensures { λ r. ⌜ RunInto p (handed (now (bytes .entry)) (now (ends .entry))) (now (codes .entry)) (now (cited .entry)) (now (codes .exit)) (now (cited .exit)) r ⌝ }
+{
+    if codes.len() < ends.len() {
+        return Outcome {
+            ran: false,
+            policy: p,
+        };
+    }
+    if cited.len() < ends.len() {
+        return Outcome {
+            ran: false,
+            policy: p,
+        };
+    }
+    let mut current = p;
+    let mut start: usize = 0;
+    let mut i: usize = 0;
+    while i < ends.len() {
+        let end = ends[i];
+        let answer = judge_part(current, bytes, start, end);
+        let verdict = answer.verdict;
+        codes[i] = code_of(verdict);
+        cited[i] = cited_of(verdict);
+        current = answer.policy;
+        start = end;
+        i = i + 1;
+    }
+    Outcome {
+        ran: true,
+        policy: current,
+    }
+}
+
+// Runs a list from the founding; and of that list demand 3 holds, whole.
+pub fn run_list(bytes: &[u8], ends: &[usize], codes: &mut [u8], cited: &mut [u8]) -> Outcome
+    ensures { λ r. ⌜ RunInto initial (handed (now (bytes .entry)) (now (ends .entry))) (now (codes .entry)) (now (cited .entry)) (now (codes .exit)) (now (cited .exit)) r ⌝ }
+    ensures { λ r. ⌜ FoundingDemand3 (handed (now (bytes .entry)) (now (ends .entry))) ⌝ }
+{
+    run_from(Policy::initial(), bytes, ends, codes, cited)
+}
