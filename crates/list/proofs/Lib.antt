@@ -12,3 +12,4 @@ pub mod Room
 pub mod Handed
 pub mod Running
 pub mod Reporting
+pub mod Sampled

@@ -1,11 +1,23 @@
 -- 212,992 bytes are enough for what an input of 65,536 bytes prints. Its records take 4 bytes or more, so it has at most 16,384
 -- lines; a line takes at most 13: five digits of an index below 100,000, two of a code, three of a cited byte, two spaces, a line feed.
-use mathlib.Core.Path.{_≡_}
-use mathlib.Core.List.{List, [], _∷_, _++_}
+use mathlib.Core.Path.{_≡_, refl, ap}
+use mathlib.Core.Bool.{Bool, true, false, cond}
+use mathlib.Core.List.{List, [], _∷_, _++_, append-nil}
 use Prim.Native.Nat.{ℕ, suc, _+_, _*_, _≤_, _<_, zero-le}
 use native.Mathlib.Omega.{arith}
+use lib.Dec.{ltb}
 use lib.ListN.{length, length-append}
+use borrow.Author.Tests.{ltb-false}
+use Rattle.reach.specs.declared.Policy.{Policy}
+use Rattle.reach.specs.Tests.{_⇒_∥_}
+use Rattle.reach.specs.Tables.{initial}
+use Rattle.frame.specs.Reading.{recordsFrom, tornFrom}
+use Rattle.frame.proofs.Records.{records-few}
+use Rattle.rules.specs.Judging.{judge, answers}
+use Rattle.rules.proofs.Bounded.{code-bounded, cited-bounded}
+use Rattle.list.specs.Runs.{Bytes}
 use Rattle.list.specs.Text.{line, lines, tornPlace}
+use Rattle.list.specs.Report.{answersFrom, report, tooLong, output}
 use Rattle.list.proofs.Decimals.{decimal-length}
 
 -- A line takes at most 13 bytes.
@@ -56,3 +68,37 @@ pub torn-lines-fit : (l : List (ℕ × ℕ))
 torn-lines-fit l b h =
     let one-more : length (l ++ (tornPlace ∷ [])) ≡ length l + 1 = simp length-append in
     omega (arith, lines-length (l ++ (tornPlace ∷ [])) (bounded-torn l b) (omega arith))
+
+-- The answers of a list are bounded, and as many as its records.
+answers-bounded : (p : Policy) (bs : List Bytes) → Bounded (answers p bs)
+unfolding answers
+answers-bounded p [] = tt
+answers-bounded p (b ∷ bs) = (code-bounded (judge p b .verdict), cited-bounded p b, answers-bounded (judge p b .policy) bs)
+
+answers-length : (p : Policy) (bs : List Bytes) → length (answers p bs) ≡ length bs
+unfolding answers
+answers-length p [] = refl
+answers-length p (b ∷ bs) = ap suc (answers-length (judge p b .policy) bs)
+
+-- The report of an input within the limit.
+pub report-fits : (input : Bytes) → length input ≤ 65536 → length (report input) ≤ 212992
+unfolding report answersFrom
+report-fits input h = go (tornFrom input 0) (records-few input 0 zero-le)
+  where
+    records : List Bytes
+    records = recordsFrom input 0
+
+    go : (torn : Bool) → 0 + 4 * length records + cond torn 1 0 ≤ length input
+        → length (lines 0 (answers initial records ++ (torn ⇒ tornPlace ∷ [] ∥ []))) ≤ 212992
+    go true few = torn-lines-fit (answers initial records) (answers-bounded initial records) (omega (arith, answers-length initial records))
+    go false few =
+        rw append-nil (lines-fit (answers initial records) (answers-bounded initial records) (omega (arith, answers-length initial records)))
+
+-- What the program prints fits into its buffer, whatever its input.
+pub output-fits : (input : Bytes) → length (output input) ≤ 212992
+unfolding output
+output-fits input = go (ltb 65536 (length input)) refl
+  where
+    go : (long : Bool) → ltb 65536 (length input) ≡ long → length (long ⇒ tooLong ∥ report input) ≤ 212992
+    go true e = omega arith
+    go false e = report-fits input (ltb-false 65536 (length input) e)

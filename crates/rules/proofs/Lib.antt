@@ -11,3 +11,4 @@ pub mod Origins
 pub mod Staying
 pub mod Readings
 pub mod Verdicts
+pub mod Bounded

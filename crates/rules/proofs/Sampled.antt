@@ -19,7 +19,7 @@ use Rattle.rules.specs.Judging.{codeOf, citedOf, done, verdictOn, verdic
 use Rattle.rules.specs.Sample.{records, expected, further, furtherExpected, traps, trapsExpected, rows, rowsExpected}
 
 -- The answers with every rule open: what is to compute opens this one.
-pub computed : Policy → List (List ℕ) → List (ℕ × ℕ)
+unfoldable pub computed : Policy → List (List ℕ) → List (ℕ × ℕ)
 unfolding bit has some lowestOr counted sort stored appointment standing rule inUse direct chain under holdsBy holds administersBy administers permitsBy askable permitted permitting orphaned withBit withoutBit made put taken appointed ruled initial lengthOf request mayAppoint may after gives handsOver torn unknown misfit stranger offTheSheet absent wrongSort alreadySo noAuthority ownGain handOver orphan codeOf citedOf done verdictOn verdict judge answers
 computed p bs = answers p bs
 
