@@ -6,7 +6,7 @@ use mathlib.Core.List.{List, [], _∷_, _++_, append-nil}
 use Prim.Native.Nat.{ℕ, suc, _+_, _*_, _≤_, _<_, zero-le}
 use native.Mathlib.Omega.{arith}
 use lib.Dec.{ltb}
-use lib.ListN.{length, length-append}
+use lib.ListN.{length, take, length-append}
 use borrow.Author.Tests.{ltb-false}
 use Rattle.reach.specs.declared.Policy.{Policy}
 use Rattle.reach.specs.Tests.{_⇒_∥_}
@@ -16,9 +16,10 @@ use Rattle.frame.proofs.Records.{records-few}
 use Rattle.rules.specs.Judging.{judge, answers}
 use Rattle.rules.proofs.Bounded.{code-bounded, cited-bounded}
 use Rattle.list.specs.Runs.{Bytes}
-use Rattle.list.specs.Text.{line, lines, tornPlace}
+use Rattle.list.specs.Text.{line, lines, tornPlace, Printed}
 use Rattle.list.specs.Report.{answersFrom, report, tooLong, output}
 use Rattle.list.proofs.Decimals.{decimal-length}
+use Rattle.list.proofs.Writing.{printed-all}
 
 -- A line takes at most 13 bytes.
 pub line-length : (index code cited : ℕ)
@@ -102,3 +103,8 @@ output-fits input = go (ltb 65536 (length input)) refl
     go : (long : Bool) → ltb 65536 (length input) ≡ long → length (long ⇒ tooLong ∥ report input) ≤ 212992
     go true e = omega arith
     go false e = report-fits input (ltb-false 65536 (length input) e)
+
+-- So what is printed into a buffer of that size is all of the text, and nothing is cut off.
+pub printed-whole : (input buffer : Bytes) {buffer′ : Bytes} {n : ℕ} → length buffer ≡ 212992 → Printed buffer (output input) buffer′ n
+    → take n buffer′ ≡ output input
+printed-whole input buffer e p = printed-all p (omega (arith, output-fits input))

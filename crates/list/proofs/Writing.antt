@@ -7,10 +7,10 @@ use Prim.Native.Nat.{ℕ, _+_, _-_, _≤_, _<_, min, zero-le}
 use native.Mathlib.Nat.{le-refl}
 use native.Mathlib.Numerals.{add-one}
 use native.Mathlib.Omega.{arith}
-use lib.ListN.{length, getD, take, drop, set, length-set, length-take, length-append, take-append-drop, drop-of-length-le}
+use lib.ListN.{length, getD, take, drop, set, length-set, length-take, length-append, length-drop, take-append-drop, drop-of-length-le}
 use lib.Dec.{leb}
 use borrow.Author.Tests.{leb-true, leb-false}
-use lib.Seq.{take-all, take-nil, take-append-le, take-suc, take-suc-set, drop-set-lt, drop-drop}
+use lib.Seq.{take-all, take-nil, take-append-le, take-suc, take-suc-set, take-append-seam, drop-set-lt, drop-drop}
 use Rattle.list.specs.Runs.{Bytes}
 use Rattle.list.specs.Text.{Holds, Wrote, Printed}
 
@@ -121,3 +121,17 @@ printed-of-wrote {a} {w} {b} {r} p =
         go false h =
             let f : length a ≤ r = omega (arith, leb-false (length w) (length a) h) in
             drop-of-length-le a f ∙ sym (drop-of-length-le a {i = length w} (omega (arith, leb-false (length w) (length a) h)))
+
+-- A buffer with room for the text has all of it, from its start on.
+pub printed-all : {a w b : Bytes} {n : ℕ} → Printed a w b n → length w ≤ length a → take n b ≡ w
+printed-all {a} {w} {b} {n} p room =
+    let all : take (length a) w ≡ w = take-all (length a) w room in
+    let many : n ≡ length w = omega (arith, p .count) in
+    rw (p .bytes, all, many) (take-append-seam w (drop (length w) a))
+
+-- The buffer keeps its length, and what is counted lies in it.
+pub printed-length : {a w b : Bytes} {n : ℕ} → Printed a w b n → length b ≡ length a
+printed-length {a} {w} p = ap length (p .bytes) ∙ simp (length-append, length-take, length-drop) (omega arith)
+
+pub printed-within : {a w b : Bytes} {n : ℕ} → Printed a w b n → n ≤ length b
+printed-within p = omega (arith, p .count, printed-length p)
