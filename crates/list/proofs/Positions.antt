@@ -5,13 +5,13 @@ use mathlib.Core.List.{List, [], _∷_, _++_}
 use Prim.Native.Nat.{ℕ, zero, suc, _≤_, _<_}
 use native.Mathlib.Decide.{ℕ-discrete}
 use native.Mathlib.Omega.{arith}
-use lib.ListN.{take}
+use lib.ListN.{take, getD}
 use lib.Seq.{take-suc}
 use Rattle.reach.specs.declared.Policy.{Policy}
 use Rattle.reach.specs.Tables.{View, Sized, view}
 use Rattle.rules.specs.declared.Request.{Request}
 use Rattle.rules.specs.Records.{sender, request}
-use Rattle.rules.specs.Judging.{codeOf, verdict, accepted, judge}
+use Rattle.rules.specs.Judging.{codeOf, verdict, accepted, judge, numbersOf, answers}
 use Rattle.rules.specs.Allowing.{viewAfter, Allowed}
 use Rattle.rules.proofs.Table.{refused-same}
 use Rattle.rules.proofs.TwoWordings.{judge-decides, judge-after, judge-sized}
@@ -37,6 +37,26 @@ unfolding run
 run-sized p [] z = z
 run-sized p (x ∷ xs) z = run-sized (judge p x .policy) xs (judge-sized p z x)
 
+-- [01:line.8] "The first is judged on the founding's sheet, each later one on the sheet that the judge returned for the one before": the
+-- policy at each position.
+pub policy-first : (start : Policy) (list : List Bytes) → policyAt start list 0 ≡ start
+policy-first start list = run-none start
+
+pub policy-next : (start : Policy) (list : List Bytes) (i : ℕ) → i < end start list
+    → policyAt start list (suc i) ≡ judge (policyAt start list i) (recordAt start list i) .policy
+policy-next start list i h =
+    ap (run start) (take-suc list i [] h)
+    ∙ run-append start (take i list) (recordAt start list i ∷ [])
+    ∙ run-one (policyAt start list i) (recordAt start list i)
+
+-- The answer at each position.
+pub answer-at : (start : Policy) (list : List Bytes) (i : ℕ) → i < end start list
+    → getD (answers start list) i (0, 0) ≡ numbersOf (judge (policyAt start list i) (recordAt start list i) .verdict)
+unfolding answers run
+answer-at start [] i h = absurd (omega arith)
+answer-at start (b ∷ bs) zero h = refl
+answer-at start (b ∷ bs) (suc i) h = answer-at (judge start b .policy) bs i (omega arith)
+
 module _ (start : Policy) (list : List Bytes) (sized : Sized start) where
   pub data Next (i : ℕ) : Type 0 where
     did : (u : ℕ) (q : Request) → Done start list i u q → Allowed (before start list i) u q
@@ -56,7 +76,7 @@ module _ (start : Policy) (list : List Bytes) (sized : Sized start) where
       z = run-sized start (take i list) sized
 
       step : policyAt start list (suc i) ≡ judge p b .policy
-      step = ap (run start) (take-suc list i [] h) ∙ run-append start (take i list) (b ∷ []) ∙ run-one p b
+      step = policy-next start list i h
 
       go : Dec (codeOf (judge p b .verdict) ≡ 0) → Next i
       go (yes e) =
@@ -94,7 +114,7 @@ module _ (start : Policy) (list : List Bytes) (sized : Sized start) where
   -- What every allowed request keeps holds at every position.
   pub kept : (P : View → Type 0) → ((v : View) (u : ℕ) (q : Request) → Allowed v u q → P v → P (viewAfter v q)) → P (view start)
       → (i : ℕ) → i ≤ end start list → P (before start list i)
-  kept P step base zero h = subst (λ (p : Policy). P (view p)) (sym (run-none start)) base
+  kept P step base zero h = subst (λ (p : Policy). P (view p)) (sym (policy-first start list)) base
   kept P step base (suc i) h = go (next i h) (kept P step base i (omega arith))
     where
       go : Next i → P (before start list i) → P (before start list (suc i))
