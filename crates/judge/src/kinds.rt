@@ -1,4 +1,4 @@
-// Checks 9 to 12 of each kind of request, and what it does.
+// Checks 5 to 12: 5 to 8 of every request, 9 to 12 kind by kind, and what an accepted request does.
 ghost use mathlib.Core.Path.{_≡_};
 ghost use mathlib.Core.Bool.{true};
 ghost use Rattle.reach.specs.Reach.{isUser};
@@ -156,7 +156,8 @@ fn use_target(p: Policy, u: u8, target: u8, operation: u8) -> Answer
     }
 }
 
-// Checks 5 to 12, in their order, and what an accepted request does.
+// Checks 5 to 12, in their order, and what an accepted request does. The module is private: the judge calls this once check 4 has shown
+// that the sender is a user.
 pub fn decide(p: Policy, u: u8, q: Request) -> Answer
     requires { ⌜ isUser p u ≡ true ⌝ }
     ensures { λ r. ⌜ r ≡ decided p u q ⌝ }
