@@ -83,10 +83,10 @@ fn put(p: Policy, u: u8, object: u8, group: u8) -> Answer
 fn take(p: Policy, u: u8, object: u8, group: u8) -> Answer
     ensures { λ r. ⌜ r ≡ finished p u (Take object group) ⌝ }
 {
+    let n = p.taken(object, group);
     if !(governs(p, u, object) & governs(p, u, group)) {
         return refuse(p, Verdict::NoAuthority);
     }
-    let n = p.taken(object, group);
     if n.orphaned() {
         return refuse(p, Verdict::Orphan);
     }
