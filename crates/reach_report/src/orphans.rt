@@ -1,4 +1,5 @@
 // The line of the orphans: the objects in use that no user owns.
+// No contract can say what is printed; text.rt says what stands in for it.
 ghost use Rattle.reach.specs.Words.{SetOf};
 ghost use Rattle.reach.specs.Tests.{Some};
 ghost use Rattle.reach.specs.Tables.{view};

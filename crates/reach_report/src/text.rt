@@ -1,4 +1,5 @@
-// Parts of a line, on the standard output. No contract can say what is written.
+// Parts of a line, on the standard output. No contract can say what is written to a file descriptor: the file stdout, which the program is
+// held to and tools/reach_by_hand.py works out by itself, stands in for it.
 use libc::STDOUT_FILENO;
 use reach::has;
 
