@@ -17,7 +17,6 @@ use crate::Gain;
 use crate::rows::administered;
 use crate::rows::first_gain;
 use crate::rows::handed;
-use crate::rows::has;
 use crate::rows::new_pair;
 use crate::rows::permitted;
 use crate::rows::put_rows;
@@ -25,6 +24,7 @@ use crate::rows::row;
 use reach::Appointment;
 use reach::Policy;
 use reach::Survey;
+use reach::has;
 
 // APPOINT gives its sender something exactly if he appoints himself to what he lacks.
 pub fn appoint_gains(p: Policy, u: u8, place: u8, w: Appointment) -> bool

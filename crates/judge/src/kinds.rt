@@ -1,4 +1,4 @@
-// Checks 9 to 12 of each kind of request, and what it does.
+// Checks 5 to 12: 5 to 8 of every request, 9 to 12 kind by kind, and what an accepted request does.
 ghost use mathlib.Core.Path.{_≡_};
 ghost use mathlib.Core.Bool.{true};
 ghost use Rattle.reach.specs.Reach.{isUser};
@@ -83,10 +83,10 @@ fn put(p: Policy, u: u8, object: u8, group: u8) -> Answer
 fn take(p: Policy, u: u8, object: u8, group: u8) -> Answer
     ensures { λ r. ⌜ r ≡ finished p u (Take object group) ⌝ }
 {
+    let n = p.taken(object, group);
     if !(governs(p, u, object) & governs(p, u, group)) {
         return refuse(p, Verdict::NoAuthority);
     }
-    let n = p.taken(object, group);
     if n.orphaned() {
         return refuse(p, Verdict::Orphan);
     }
@@ -156,7 +156,8 @@ fn use_target(p: Policy, u: u8, target: u8, operation: u8) -> Answer
     }
 }
 
-// Checks 5 to 12, in their order, and what an accepted request does.
+// Checks 5 to 12, in their order, and what an accepted request does. The module is private: the judge calls this once check 4 has shown
+// that the sender is a user.
 pub fn decide(p: Policy, u: u8, q: Request) -> Answer
     requires { ⌜ isUser p u ≡ true ⌝ }
     ensures { λ r. ⌜ r ≡ decided p u q ⌝ }

@@ -4,20 +4,14 @@ ghost use mathlib.Core.Bool.{true};
 ghost use mathlib.Core.Logic.{_⊎_};
 ghost use Prim.Native.Nat.{ℕ, _<_};
 ghost use lib.ListN.{getD};
-ghost use Rattle.reach.specs.Words.{bit, has, SetOf, TableOf};
+ghost use Rattle.reach.specs.Words.{bit, SetOf, TableOf};
 ghost use Rattle.reach.specs.Tests.{Some, Decides};
 ghost use Rattle.reach.specs.Tables.{noAppointment};
 ghost use Rattle.judge.specs.Rows.{In, HeldAt, AdministeredAt, PermittedAt, Joined, New, FirstNew, HandedBy};
 use crate::Gain;
 use reach::AccessRule;
 use reach::Appointment;
-
-// Whether x is in the set.
-pub fn has(set: u64, x: u8) -> bool
-    ensures { λ r. ⌜ r ≡ has set x ⌝ }
-{
-    if x < 64 { (set >> x) & 1 == 1 } else { false }
-}
+use reach::has;
 
 // Row g; past the end of the table there is nothing.
 pub fn row(rows: [u64; 64], g: u8) -> u64

@@ -21,6 +21,7 @@ use Rattle.reach.specs.Tables.{View, view, Sized, initial}
 use Rattle.reach.specs.Successors.{withBit, withoutBit, withMembers, withSorts, onTable, addTo, removeFrom, cleared}
 use Rattle.reach.specs.Successors.{put, taken, made, appointed, dismissed, ruled, granted, withdrawn}
 use Rattle.reach.specs.Changes.{viewMade, viewPut, viewTaken, viewAppointed, viewDismissed, viewRuled, viewGranted, viewWithdrawn}
+use Rattle.reach.proofs.Lists.{length-mapped}
 use Rattle.reach.proofs.OneBit.{has-with, has-without}
 
 -- Views that read alike are equal.
@@ -148,6 +149,17 @@ module _ (p : Policy) (z : Sized p) where
   view-withdrawn i a = view-ruled i noRule a
 
 -- ---- The sizes
+
+-- From the lengths of the tables, those of structs as the code's facts give them.
+pub sized-of-lengths : (p : Policy) (X Y : Type 0) (f : Appointment → X) (g : AccessRule → Y) → length (p .sorts) ≡ 64
+    → length (p .members) ≡ 64 → length (map f (p .appointments)) ≡ 32 → length (map g (p .rules)) ≡ 64 → Sized p
+sized-of-lengths p X Y f g s m a r =
+    record {
+      sorts = s;
+      members = m;
+      appointments = length-mapped _ _ f (p .appointments) 32 a;
+      rules = length-mapped _ _ g (p .rules) 64 r;
+    }
 
 sized-if : (t : Bool) (p q : Policy) → Sized p → Sized q → Sized (t ⇒ p ∥ q)
 sized-if true p q a b = a

@@ -7,6 +7,8 @@ mod sets;
 mod successors;
 mod under;
 
+pub use sets::has;
+
 // Document 01's warrant: kind 1 owner, 2 manager, 3 administrator; any other kind is an empty place.
 pub struct Appointment {
     pub kind: u8,

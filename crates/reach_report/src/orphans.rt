@@ -1,13 +1,14 @@
 // The line of the orphans: the objects in use that no user owns.
+// No contract can say what is printed; text.rt says what stands in for it.
 ghost use Rattle.reach.specs.Words.{SetOf};
 ghost use Rattle.reach.specs.Tests.{Some};
 ghost use Rattle.reach.specs.Tables.{view};
 ghost use Rattle.reach.specs.Privileges.{Owns, Orphan};
 use crate::text::doubt;
-use crate::text::has;
 use crate::text::item;
 use crate::text::words;
 use reach::Policy;
+use reach::has;
 
 // All that some user owns.
 fn owned_by_any(p: Policy) -> u64

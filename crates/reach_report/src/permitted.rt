@@ -1,4 +1,5 @@
 // Lines of what is permitted: the targets, each with the lowest place of a rule that permits it.
+// No contract can say what is printed; text.rt says what stands in for it.
 use crate::NAMED;
 use crate::text::end_of_some;
 use crate::text::head_of_some;

@@ -1,14 +1,7 @@
-// Parts of a line, on the standard output. No contract can say what is written.
-ghost use mathlib.Core.Path.{_≡_};
-ghost use Rattle.reach.specs.Words.{has};
+// Parts of a line, on the standard output. No contract can say what is written to a file descriptor: the file stdout, which the program is
+// held to and tools/reach_by_hand.py works out by itself, stands in for it.
 use libc::STDOUT_FILENO;
-
-// Whether x is in the set.
-pub fn has(set: u64, x: u8) -> bool
-    ensures { λ r. ⌜ r ≡ has set x ⌝ }
-{
-    if x < 64 { (set >> x) & 1 == 1 } else { false }
-}
+use reach::has;
 
 // The words as they are.
 pub fn words(text: &[u8]) {

@@ -1,4 +1,5 @@
 // Lines of reach: what is under an object.
+// No contract can say what is printed; text.rt says what stands in for it.
 use crate::NAMED;
 use crate::text::doubt;
 use crate::text::head;

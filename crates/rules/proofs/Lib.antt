@@ -1,5 +1,5 @@
 -- The laws of the judge's rules, each file under its subject.
-pub mod Sampled
+pub mod Answered
 pub mod Passing
 pub mod Giving
 pub mod Table

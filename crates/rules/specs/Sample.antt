@@ -174,6 +174,8 @@ rows =
     GRANT 7 1 4 5 1 ∷
     WITHDRAW 7 0 ∷
     USE 2 6 2 ∷
+    -- Own gain by PUT: the users of a rule.
+    PUT 1 1 4 ∷
     -- A TAKE, a WITHDRAW and two DISMISS that are done, and what they leave.
     TAKE 2 3 4 ∷
     USE 3 6 2 ∷
@@ -190,4 +192,4 @@ rowsExpected =
     no 1 ∷ no 1 ∷ no 1 ∷ no 1 ∷ no 2 ∷ no 2 ∷ no 2 ∷ no 3 ∷ no 3 ∷ no 4 ∷ no 4 ∷ no 4 ∷ no 5 ∷ no 5 ∷ no 5 ∷ no 5 ∷ no 5 ∷ no 5 ∷
     no 5 ∷ no 5 ∷ no 5 ∷ no 5 ∷ no 5 ∷ no 5 ∷ no 5 ∷ no 5 ∷ no 5 ∷ no 6 ∷ no 6 ∷ no 6 ∷ no 6 ∷ no 6 ∷ no 6 ∷ no 6 ∷ no 6 ∷ no 6 ∷
     no 7 ∷ no 7 ∷ no 7 ∷ no 7 ∷ no 7 ∷ no 7 ∷ no 7 ∷ no 8 ∷ no 8 ∷ no 8 ∷ no 8 ∷ no 8 ∷ no 9 ∷ no 9 ∷ no 9 ∷ no 9 ∷ no 9 ∷ no 9 ∷
-    no 9 ∷ no 9 ∷ no 9 ∷ ok ∷ no 9 ∷ ok ∷ no 9 ∷ ok ∷ ok ∷ no 6 ∷ no 9 ∷ []
+    no 9 ∷ no 9 ∷ no 9 ∷ no 10 ∷ ok ∷ no 9 ∷ ok ∷ no 9 ∷ ok ∷ ok ∷ no 6 ∷ no 9 ∷ []

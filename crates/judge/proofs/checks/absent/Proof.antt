@@ -1,3 +1,4 @@
+-- Check 6 is its definition, kind by kind, by the contracts of what it asks of the policy.
 use Rattle.rules.specs.Refusals.{absent}
 use borrow.Author.Needs.{needs}
 use Rattle.judge.proofs.checks.absent.Statement.{statement}

@@ -2,7 +2,7 @@
 use mathlib.Core.Path.{_≡_, refl, sym, ap, _∙_}
 use borrow.Author.Tests.{eqb-true}
 use Rattle.reach.specs.Tables.{Sized}
-use Rattle.reach.proofs.Lists.{length-mapped}
+use Rattle.reach.proofs.AsRead.{sized-of-lengths}
 use Rattle.reach.proofs.Testing.{decides-eqb}
 use Rattle.rules.specs.Doing.{after}
 use Rattle.judge.proofs.Gaining.{grant-found, grant-none}
@@ -35,13 +35,7 @@ enum-told c = search needs
 
 -- The tables of the policy have their sizes.
 sized : (c : tie.Start) → Sized (c .args .p)
-sized c =
-    record {
-      sorts = search (needs, length-mapped);
-      members = search (needs, length-mapped);
-      appointments = search (needs, length-mapped);
-      rules = search (needs, length-mapped);
-    }
+sized c = search (needs, sized-of-lengths)
 
 returns : tie.Need-returns
 unfolding after

@@ -3,7 +3,7 @@ use mathlib.Core.Path.{_≡_, refl, sym, subst}
 use Prim.Native.Nat.{ℕ}
 use borrow.Author.Tests.{eqb-true}
 use Rattle.reach.specs.Tables.{Sized}
-use Rattle.reach.proofs.Lists.{length-mapped}
+use Rattle.reach.proofs.AsRead.{sized-of-lengths}
 use Rattle.reach.proofs.Testing.{refuted}
 use Rattle.judge.specs.Rows.{FirstNew}
 use Rattle.judge.proofs.Growing.{Grows, own-grows, managed-grows, pair-new, permission-new, nothing-new}
@@ -13,13 +13,7 @@ use Rattle.judge.proofs.gains.put_gains.Tie as tie
 
 -- The tables of the policy have their sizes.
 sized : (c : tie.Start) → Sized (c .args .p)
-sized c =
-    record {
-      sorts = search (needs, length-mapped);
-      members = search (needs, length-mapped);
-      appointments = search (needs, length-mapped);
-      rules = search (needs, length-mapped);
-    }
+sized c = search (needs, sized-of-lengths)
 
 row-requires : tie.Need-row-requires
 row-requires c κs = search needs

@@ -12,7 +12,7 @@ refuse-requires : tie.Need-refuse-requires
 refuse-requires c κs = search needs
 
 returns : tie.Need-returns
-returns c = c .refuse .ensures ∙ decided-5 _ _ _ (sym (c .before .before .off-the-sheet .ensures) ∙ c .before .if1 .taken)
+returns c = c .refuse .ensures ∙ decided-5 _ _ _ (search (needs, sym, _∙_))
 
 absent-requires : tie.Need-absent-requires
 absent-requires c κs = search needs
@@ -21,7 +21,7 @@ refuse-requires-2 : tie.Need-refuse-requires-2
 refuse-requires-2 c κs = search needs
 
 returns-2 : tie.Need-returns-2
-returns-2 c = c .refuse2 .ensures ∙ decided-6 _ _ _ (sym (c .before .before .before .before .off-the-sheet .ensures) ∙ c .before .before .before .if1 .left) (sym (c .before .before .absent .ensures) ∙ c .before .if2 .taken)
+returns-2 c = c .refuse2 .ensures ∙ decided-6 _ _ _ (search (needs, sym, _∙_)) (search (needs, sym, _∙_))
 
 wrong-sort-requires : tie.Need-wrong-sort-requires
 wrong-sort-requires c κs = search needs
@@ -30,7 +30,7 @@ refuse-requires-3 : tie.Need-refuse-requires-3
 refuse-requires-3 c κs = search needs
 
 returns-3 : tie.Need-returns-3
-returns-3 c = c .refuse3 .ensures ∙ decided-7 _ _ _ (sym (c .before .before .before .before .before .before .off-the-sheet .ensures) ∙ c .before .before .before .before .before .if1 .left) (sym (c .before .before .before .before .absent .ensures) ∙ c .before .before .before .if2 .left) (sym (c .before .before .wrong-sort .ensures) ∙ c .before .if3 .taken)
+returns-3 c = c .refuse3 .ensures ∙ decided-7 _ _ _ (search (needs, sym, _∙_)) (search (needs, sym, _∙_)) (search (needs, sym, _∙_))
 
 already-so-requires : tie.Need-already-so-requires
 already-so-requires c κs = search needs

@@ -22,7 +22,10 @@ refuse-requires c κs = search needs
 
 returns : tie.Need-returns
 unfolding may
-returns c = c .refuse .ensures ∙ finished-9 _ _ (Grant _ _ _ _) (sym (c .before .before .administers .ensures) ∙ not-true _ (c .before .if1 .taken))
+returns c =
+    let a = c .before .before .before .args in
+    c .refuse .ensures
+    ∙ finished-9 (a .p) (a .u) (Grant (a .place) (a .users) (a .targets) (a .operations)) (sym (c .before .before .administers .ensures) ∙ not-true _ (c .before .if1 .taken))
 
 grant-gains-requires : tie.Need-grant-gains-requires
 grant-gains-requires c κs = c .before .before .pre

@@ -4,7 +4,7 @@ use mathlib.Core.Bool.{_&&_}
 use borrow.Author.Tests.{eqb-true, not-true, not-false}
 use Rattle.reach.specs.declared.Policy.{Policy}
 use Rattle.reach.specs.Tables.{Sized}
-use Rattle.reach.proofs.Lists.{length-mapped}
+use Rattle.reach.proofs.AsRead.{sized-of-lengths}
 use Rattle.reach.proofs.WordSets.{set-mask, set-not}
 use Rattle.rules.specs.declared.Verdict.the-variants.{Done}
 use Rattle.rules.specs.declared.Request.the-variants.{Put}
@@ -22,13 +22,7 @@ use Rattle.judge.proofs.kinds.put.Tie as tie
 
 -- The tables of the policy have their sizes.
 sized : (c : tie.Start) → Sized (c .args .p)
-sized c =
-    record {
-      sorts = search (needs, length-mapped);
-      members = search (needs, length-mapped);
-      appointments = search (needs, length-mapped);
-      rules = search (needs, length-mapped);
-    }
+sized c = search (needs, sized-of-lengths)
 
 governs-requires : tie.Need-governs-requires
 governs-requires c κs = search needs

@@ -18,6 +18,9 @@ use borrow.Author.Needs.{needs}
 use Rattle.judge.proofs.kinds.take.Statement.{statement}
 use Rattle.judge.proofs.kinds.take.Tie as tie
 
+taken-requires : tie.Need-taken-requires
+taken-requires c κs = search needs
+
 governs-requires : tie.Need-governs-requires
 governs-requires c κs = search needs
 
@@ -29,10 +32,10 @@ refuse-requires c κs = search needs
 
 returns : tie.Need-returns
 unfolding may after done ownGain handOver orphan
-returns c = c .refuse .ensures ∙ finished-9 _ _ (Take _ _) (sym (ap₂ _&&_ (c .before .before .before .governs .ensures) (c .before .before .governs2 .ensures)) ∙ not-true _ (c .before .if1 .taken))
-
-taken-requires : tie.Need-taken-requires
-taken-requires c κs = search needs
+returns c =
+    let a = c .before .before .before .before .before .args in
+    c .refuse .ensures
+    ∙ finished-9 (a .p) (a .u) (Take (a .object) (a .group)) (sym (ap₂ _&&_ (c .before .before .before .governs .ensures) (c .before .before .governs2 .ensures)) ∙ not-true _ (c .before .if1 .taken))
 
 orphaned-requires : tie.Need-orphaned-requires
 orphaned-requires c κs = search needs
@@ -44,8 +47,8 @@ returns-2 : tie.Need-returns-2
 unfolding may after done ownGain handOver orphan
 returns-2 c =
     c .refuse2 .ensures
-    ∙ finished-12 _ _ (Take _ _) (sym (ap₂ _&&_ (c .before .before .before .before .before .before .governs .ensures) (c .before .before .before .before .before .governs2 .ensures)) ∙ not-false _ (c .before .before .before .before .if1 .left)) refl refl
-    (ap orphaned (sym (c .before .before .before .taken .ensures)) ∙ sym (c .before .before .orphaned .ensures) ∙ c .before .if2 .taken)
+    ∙ finished-12 _ _ (Take _ _) (sym (ap₂ _&&_ (c .before .before .before .before .before .governs .ensures) (c .before .before .before .before .governs2 .ensures)) ∙ not-false _ (c .before .before .before .if1 .left)) refl refl
+    (ap orphaned (sym (c .before .before .before .before .before .before .taken .ensures)) ∙ sym (c .before .before .orphaned .ensures) ∙ c .before .if2 .taken)
 
 refuse-requires-3 : tie.Need-refuse-requires-3
 refuse-requires-3 c κs = search needs
@@ -54,19 +57,19 @@ returns-3 : tie.Need-returns-3
 unfolding may after done ownGain handOver orphan
 returns-3 c =
     c .refuse3 .ensures
-    ∙ ap (λ (n : Policy). refused n Done) (c .before .before .before .taken .ensures)
-    ∙ finished-0 _ _ (Take _ _) (sym (ap₂ _&&_ (c .before .before .before .before .before .before .governs .ensures) (c .before .before .before .before .before .governs2 .ensures)) ∙ not-false _ (c .before .before .before .before .if1 .left)) refl refl
-    (ap orphaned (sym (c .before .before .before .taken .ensures)) ∙ sym (c .before .before .orphaned .ensures) ∙ c .before .if2 .left)
+    ∙ ap (λ (n : Policy). refused n Done) (c .before .before .before .before .before .before .taken .ensures)
+    ∙ finished-0 _ _ (Take _ _) (sym (ap₂ _&&_ (c .before .before .before .before .before .governs .ensures) (c .before .before .before .before .governs2 .ensures)) ∙ not-false _ (c .before .before .before .if1 .left)) refl refl
+    (ap orphaned (sym (c .before .before .before .before .before .before .taken .ensures)) ∙ sym (c .before .before .orphaned .ensures) ∙ c .before .if2 .left)
 
 pub take-spec : {M : Type 1} → statement M
 take-spec =
     tie.close
     (tie.spec
+    taken-requires
     governs-requires
     governs-requires-2
     refuse-requires
     returns
-    taken-requires
     orphaned-requires
     refuse-requires-2
     returns-2

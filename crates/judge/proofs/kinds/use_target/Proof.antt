@@ -1,3 +1,4 @@
+-- USE ends as its stage says: done by the lowest place that permits it, or without authority.
 use Rattle.reach.specs.declared.Place.{Place}
 use Rattle.reach.proofs.Deciding.{permitted-at, permitted-nothing}
 use Rattle.rules.specs.Judging.{doneBy}

@@ -1,3 +1,4 @@
+-- WITHDRAW ends as its stage says: without authority, or done.
 use mathlib.Core.Path.{_≡_, refl, sym, ap, _∙_}
 use borrow.Author.Tests.{not-true, not-false}
 use Rattle.rules.specs.declared.Answer.{Answer}

@@ -1,3 +1,4 @@
+-- The length of each kind is its definition, arm by arm; the last arm is every other number.
 use borrow.Author.Tests.{ne-eqb}
 use Rattle.rules.specs.Records.{lengthOf}
 use borrow.Author.Needs.{needs}

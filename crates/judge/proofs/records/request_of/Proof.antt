@@ -1,3 +1,4 @@
+-- The request of each kind is its definition, arm by arm, from the bytes that the record has.
 use borrow.Author.Tests.{ne-eqb}
 use Rattle.rules.specs.Records.{request}
 use borrow.Author.Needs.{needs}

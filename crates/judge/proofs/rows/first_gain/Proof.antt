@@ -1,3 +1,4 @@
+-- Number by number and row by row: nothing before the place of the search is new, and what is found there is.
 use Rattle.reach.proofs.WordSets.{decides-has, set-bits, set-below}
 use Rattle.reach.proofs.Testing.{decides-at}
 use mathlib.Core.Path.{subst}

@@ -1,3 +1,4 @@
+-- Row by row: no row below i has a new number, and one that has answers.
 use Rattle.judge.proofs.News.{news-yes, news-no, decides-yes, decides-no}
 use mathlib.Core.Path.{_≡_, refl, sym, ap, _∙_}
 use native.Mathlib.Omega.{arith}

@@ -1,3 +1,4 @@
+-- A row is the element at its place, and past the end of the table there is nothing.
 use mathlib.Core.Path.{_≡_, refl, sym, ap, _∙_}
 use native.Mathlib.Omega.{arith}
 use lib.ListN.{length}

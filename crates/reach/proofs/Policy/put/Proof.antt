@@ -33,7 +33,7 @@ returns-3 : tie.Need-returns-3
 unfolding put
 returns-3 c =
     let a = c .before .before .before .args in
-    rw (lt-ltb _ _ (c .before .before .if1 .left), lt-ltb _ _ (c .before .if2 .left), or-is-with (a .x) _ (search needs))
+    rw (lt-ltb _ _ (c .before .before .if1 .left), lt-ltb _ _ (c .before .if2 .left), ← or-is-with (a .x) _ (search needs))
 
 pub put-spec : {M : Type 1} → statement M
 put-spec =

@@ -1,0 +1,29 @@
+-- The part of the script is its changes, one after the other: by the contract of each.
+use borrow.Author.Needs.{needs}
+use Rattle.reach_report.proofs.script.with_circles.Statement.{statement}
+use Rattle.reach_report.proofs.script.with_circles.Tie as tie
+
+put-requires : tie.Need-put-requires
+put-requires c κs = search needs
+
+put-requires-2 : tie.Need-put-requires-2
+put-requires-2 c κs = search needs
+
+put-requires-3 : tie.Need-put-requires-3
+put-requires-3 c κs = search needs
+
+put-requires-4 : tie.Need-put-requires-4
+put-requires-4 c κs = search needs
+
+returns : tie.Need-returns
+returns c =
+    rw (
+      c .put4 .ensures,
+      c .before .put3 .ensures,
+      c .before .before .put2 .ensures,
+      c .before .before .before .put .ensures,
+    )
+
+pub with-circles-spec : {M : Type 1} → statement M
+with-circles-spec =
+    tie.close (tie.spec put-requires put-requires-2 put-requires-3 put-requires-4 returns)

@@ -1,0 +1,2 @@
+-- What the program tells of.
+pub mod Script
