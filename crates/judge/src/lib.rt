@@ -1,6 +1,6 @@
 // The judge: one request on one policy, answered as the crate `rules` says.
 ghost use mathlib.Core.Path.{_≡_};
-ghost use Rattle.rules.specs.Judging.{judge};
+ghost use Rattle.rules.specs.Judging.{judge, OneAnswer};
 
 mod checks;
 mod gains;
@@ -28,9 +28,11 @@ pub enum Gain {
     Nothing,
 }
 
-// The judge: the answer to one record on one policy, for every policy and all bytes.
+// The judge: the answer to one record on one policy, for every policy and all bytes. The first clause is demand 2, every answer and
+// every policy after it as the rules have it; the second is demand 1, one numbered answer, and a refusal that changes nothing.
 pub fn judge(p: Policy, bytes: &[u8]) -> Answer
     ensures { λ r. ⌜ r ≡ judge p (now (bytes .entry)) ⌝ }
+    ensures { λ r. ⌜ OneAnswer p r ⌝ }
 {
     if torn(bytes) {
         return refuse(p, Verdict::Torn);

@@ -1,6 +1,6 @@
 -- Every code is one of document 01's twelve or 0, and every answer cites a byte: 255, or a place of the table of rules. By cases on the
 -- verdict and, for an accepted USE, by the place that permits it.
-use mathlib.Core.Path.{_≡_, refl, sym, subst, _∙_}
+use mathlib.Core.Path.{_≡_, refl, sym, ap, subst, _∙_}
 use mathlib.Core.List.{List}
 use Prim.Native.Nat.{ℕ, _≤_}
 use native.Mathlib.Decide.{ℕ-discrete}
@@ -14,10 +14,11 @@ use Rattle.rules.specs.declared.Request.{Request}
 use Rattle.rules.specs.declared.Request.the-variants.{Make, Put, Take, Appoint, Dismiss, Grant, Withdraw, Use}
 use Rattle.rules.specs.declared.Verdict.{Verdict}
 use Rattle.rules.specs.declared.Verdict.the-variants.{Done, DoneBy, Torn, Unknown, Misfit, Stranger, OffTheSheet, Absent, WrongSort, AlreadySo, NoAuthority, OwnGain, HandOver, Orphan}
+use Rattle.rules.specs.declared.Answer.{Answer}
 use Rattle.rules.specs.Records.{sender, request}
-use Rattle.rules.specs.Judging.{codeOf, citedOf, doneBy, done, judge}
-use Rattle.rules.proofs.Table.{accepted-done, judge-verdict}
-use Rattle.rules.proofs.Verdicts.{accepted-code}
+use Rattle.rules.specs.Judging.{codeOf, citedOf, doneBy, done, judge, OneAnswer}
+use Rattle.rules.proofs.Table.{accepted-done, judge-verdict, refused-same}
+use Rattle.rules.proofs.Verdicts.{accepted-code, refused-code}
 
 -- Every code is one of document 01's.
 pub code-bounded : (v : Verdict) → codeOf v ≤ 12
@@ -84,3 +85,10 @@ cited-bounded p b = go (ℕ-discrete (codeOf (judge p b .verdict)) 0)
         (sym (judge-verdict p b ∙ accepted-done p b (accepted-code p b e)))
         (done-cited-bounded p (sender b) (request b))
     go (no n) = rw (refused-cites (judge p b .verdict) n) (omega arith)
+
+-- Demand 1 of whatever the judge answers.
+pub one-answer : (p : Policy) (b : List ℕ) (a : Answer) → a ≡ judge p b → OneAnswer p a
+one-answer p b a e = record {
+  numbered = code-bounded (a .verdict);
+  refusal-keeps = λ n. ap (λ (r : Answer). r .policy) e ∙ refused-same p b (refused-code p b (λ z. n (ap (λ (r : Answer). codeOf (r .verdict)) e ∙ z)));
+}

@@ -1,7 +1,8 @@
 -- The judge. [01:no.13] "Tested in order; the first that applies is returned, cited 255, sheet unchanged."
+use mathlib.Core.Path.{_≡_}
 use mathlib.Core.Bool.{Bool}
 use mathlib.Core.List.{List, [], _∷_}
-use Prim.Native.Nat.{ℕ}
+use Prim.Native.Nat.{ℕ, _≤_}
 use lib.Dec.{eqb}
 use Rattle.reach.specs.declared.Policy.{Policy}
 use Rattle.reach.specs.declared.Place.{Place}
@@ -93,6 +94,12 @@ accepted v = eqb (codeOf v) 0
 unfoldable pub judge : Policy → List ℕ → Answer
 judge p b =
     let v = verdict p b in record { policy = accepted v ⇒ after p (request b) ∥ p; verdict = v }
+
+-- Demand 1: "exactly one answer: done, or one numbered refusal. A refusal leaves the sheet exactly as it stood." One answer is what a
+-- function returns; that its number is one of the table's, and what a refusal leaves, is said here of an answer on the policy p.
+pub record OneAnswer (p : Policy) (a : Answer) : Type 0 where
+  pub numbered : codeOf (a .verdict) ≤ 12
+  pub refusal-keeps : (codeOf (a .verdict) ≡ 0 → ⊥) → a .policy ≡ p
 
 -- [01:runner.10] ".. per record: .. code, cited." The two numbers of a verdict.
 abbrev pub numbersOf : Verdict → ℕ × ℕ

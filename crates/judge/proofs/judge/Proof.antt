@@ -1,11 +1,21 @@
 -- Checks 1 to 4, each after the ones before it have passed, and then the later ones.
 use mathlib.Core.Path.{_≡_, sym, ap₂, _∙_}
+use mathlib.Core.List.{List}
+use Prim.Native.Nat.{ℕ}
 use denote.Ref.{now}
+use Rattle.reach.specs.declared.Policy.{Policy}
+use Rattle.rules.specs.declared.Answer.{Answer}
+use Rattle.rules.specs.Judging.{judge, OneAnswer}
+use Rattle.rules.proofs.Bounded.{one-answer}
 use Rattle.judge.specs.Stages.{decided}
 use Rattle.judge.proofs.Staged.{judge-1, judge-2, judge-3, judge-4, judge-late, stranger-is, no-stranger}
 use borrow.Author.Needs.{needs}
 use Rattle.judge.proofs.judge.Statement.{statement}
 use Rattle.judge.proofs.judge.Tie as tie
+
+-- An answer that is the judge's meets both demands.
+both : (p : Policy) (b : List ℕ) {a : Answer} → a ≡ judge p b → (a ≡ judge p b) × OneAnswer p a
+both p b {a} e = (e, one-answer p b a e)
 
 torn-requires : tie.Need-torn-requires
 torn-requires c κs = search needs
@@ -14,7 +24,7 @@ refuse-requires : tie.Need-refuse-requires
 refuse-requires c κs = search needs
 
 returns : tie.Need-returns
-returns c = c .refuse .ensures ∙ judge-1 _ _ (sym (c .before .before .torn .ensures) ∙ c .before .if1 .taken)
+returns c = both _ _ (c .refuse .ensures ∙ judge-1 _ _ (sym (c .before .before .torn .ensures) ∙ c .before .if1 .taken))
 
 unknown-requires : tie.Need-unknown-requires
 unknown-requires c κs = search needs
@@ -23,7 +33,7 @@ refuse-requires-2 : tie.Need-refuse-requires-2
 refuse-requires-2 c κs = search needs
 
 returns-2 : tie.Need-returns-2
-returns-2 c = c .refuse2 .ensures ∙ judge-2 _ _ (sym (c .before .before .before .before .torn .ensures) ∙ c .before .before .before .if1 .left) (sym (c .before .before .unknown .ensures) ∙ c .before .if2 .taken)
+returns-2 c = both _ _ (c .refuse2 .ensures ∙ judge-2 _ _ (sym (c .before .before .before .before .torn .ensures) ∙ c .before .before .before .if1 .left) (sym (c .before .before .unknown .ensures) ∙ c .before .if2 .taken))
 
 misfit-requires : tie.Need-misfit-requires
 misfit-requires c κs = search needs
@@ -32,7 +42,7 @@ refuse-requires-3 : tie.Need-refuse-requires-3
 refuse-requires-3 c κs = search needs
 
 returns-3 : tie.Need-returns-3
-returns-3 c = c .refuse3 .ensures ∙ judge-3 _ _ (sym (c .before .before .before .before .before .before .torn .ensures) ∙ c .before .before .before .before .before .if1 .left) (sym (c .before .before .before .before .unknown .ensures) ∙ c .before .before .before .if2 .left) (sym (c .before .before .misfit .ensures) ∙ c .before .if3 .taken)
+returns-3 c = both _ _ (c .refuse3 .ensures ∙ judge-3 _ _ (sym (c .before .before .before .before .before .before .torn .ensures) ∙ c .before .before .before .before .before .if1 .left) (sym (c .before .before .before .before .unknown .ensures) ∙ c .before .before .before .if2 .left) (sym (c .before .before .misfit .ensures) ∙ c .before .if3 .taken))
 
 byte-requires : tie.Need-byte-requires
 byte-requires c κs = search needs
@@ -44,10 +54,9 @@ refuse-requires-4 : tie.Need-refuse-requires-4
 refuse-requires-4 c κs = search needs
 
 returns-4 : tie.Need-returns-4
-returns-4 c =
-    c .refuse4 .ensures
+returns-4 c = both _ _ (c .refuse4 .ensures
     ∙ judge-4 _ _ (sym (c .before .before .before .before .before .before .before .before .before .torn .ensures) ∙ c .before .before .before .before .before .before .before .before .if1 .left) (sym (c .before .before .before .before .before .before .before .unknown .ensures) ∙ c .before .before .before .before .before .before .if2 .left) (sym (c .before .before .before .before .before .misfit .ensures) ∙ c .before .before .before .before .if3 .left)
-    (stranger-is _ (now (c .before .before .before .before .before .before .before .before .before .before .before .args .bytes)) (c .before .before .before .byte .ensures) (c .before .before .is-user .ensures) (c .before .if4 .taken))
+    (stranger-is _ (now (c .before .before .before .before .before .before .before .before .before .before .before .args .bytes)) (c .before .before .before .byte .ensures) (c .before .before .is-user .ensures) (c .before .if4 .taken)))
 
 request-of-requires : tie.Need-request-of-requires
 request-of-requires c κs = search needs
@@ -56,11 +65,10 @@ decide-requires : tie.Need-decide-requires
 decide-requires c κs = no-stranger _ _ (c .before .before .is-user .ensures) (c .before .if4 .left)
 
 returns-5 : tie.Need-returns-5
-returns-5 c =
-    c .decide .ensures
+returns-5 c = both _ _ (c .decide .ensures
     ∙ ap₂ (decided _) (c .before .before .before .before .byte .ensures) (c .before .request-of .ensures)
     ∙ judge-late _ _ (sym (c .before .before .before .before .before .before .before .before .before .before .torn .ensures) ∙ c .before .before .before .before .before .before .before .before .before .if1 .left) (sym (c .before .before .before .before .before .before .before .before .unknown .ensures) ∙ c .before .before .before .before .before .before .before .if2 .left) (sym (c .before .before .before .before .before .before .misfit .ensures) ∙ c .before .before .before .before .before .if3 .left)
-    (stranger-is _ (now (c .before .before .before .before .before .before .before .before .before .before .before .before .args .bytes)) (c .before .before .before .before .byte .ensures) (c .before .before .before .is-user .ensures) (c .before .before .if4 .left))
+    (stranger-is _ (now (c .before .before .before .before .before .before .before .before .before .before .before .before .args .bytes)) (c .before .before .before .before .byte .ensures) (c .before .before .before .is-user .ensures) (c .before .before .if4 .left)))
 
 pub judge-spec : {M : Type 1} → statement M
 judge-spec =

@@ -82,7 +82,7 @@ loop-less c = omega (arith, found (c .before .before .before .before .before .be
 loop-again : tie.Need-loop-again Inv-loop μ-loop
 loop-again c =
     let told = c .before .before .before .before .before .before .before .before .before in
-    reporting-record _ _ (told .before .before .before .before .loop .inv) _ _ _ (record-at told) (c .before .before .before .before .before .before .before .judge .ensures) (c .before .before .before .before .before .code-of .ensures) (c .before .before .before .before .cited-of .ensures) (c .before .before .before .put-line .ensures)
+    reporting-record _ _ (told .before .before .before .before .loop .inv) _ _ _ (record-at told) (c .before .before .before .before .before .before .before .judge .ensures .0) (c .before .before .before .before .before .code-of .ensures) (c .before .before .before .before .cited-of .ensures) (c .before .before .before .put-line .ensures)
 
 enum-told : tie.Need-enum-told Inv-loop μ-loop
 enum-told c = search needs
