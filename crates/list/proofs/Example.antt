@@ -10,7 +10,7 @@ use Rattle.reach.specs.Privileges.{permitted}
 use Rattle.reach.proofs.Deciding.{permitted-decides}
 use Rattle.rules.specs.declared.Request.the-variants.{Use}
 use Rattle.rules.specs.Sample.{records}
-use Rattle.rules.proofs.Sampled.{computed}
+use Rattle.rules.proofs.Answered.{computed}
 use Rattle.list.specs.Runs.{Bytes, run, policyAt, end, Done}
 use Rattle.list.specs.Lines.{PermissionLine}
 use Rattle.list.proofs.Demanded.{third}
