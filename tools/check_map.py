@@ -67,7 +67,7 @@ def missing(root, name):
         book = root / "docs/DECISIONS.md"
         text = book.read_text("utf-8") if book.is_file() else ""
         return None if re.search(rf"^(#+ )?{name}\.", text, re.M) else "no such entry in docs/DECISIONS.md"
-    if re.fullmatch(r"[^/\s].*/(.*\.\w+)?", name) and ".." not in name.split("/"):
+    if re.fullmatch(r"[^/\s].*/[\w.-]*", name) and ".." not in name.split("/"):
         found = (root / name).is_dir() if name.endswith("/") else (root / name).is_file()
         return None if found else "no such path"
     if m := re.fullmatch(r"(\w+)\.([^\s./`]+)", name):
