@@ -1,4 +1,4 @@
--- Own gain of GRANT and of APPOINT, as the code finds it: GRANT gives permissions alone, and APPOINT what R11 says (D23). From what each
+-- Own gain of GRANT and of APPOINT, as the code finds it: GRANT gives permissions alone, and APPOINT what D23 says (D23). From what each
 -- change carries, and the laws that the tests decide.
 use mathlib.Core.Path.{_≡_, refl, sym, ap, _∙_, subst}
 use mathlib.Core.Bool.{Bool, true, false, _||_}

@@ -11,11 +11,10 @@ use native.Mathlib.Omega.{arith}
 use lib.Bits.{bitOr}
 use lib.ListN.{length, getD, set, length-set}
 use lib.Seq.{getD-set-same, getD-set-other}
-use borrow.Author.Tests.{eqb-true, eq-eqb}
 use Rattle.reach.specs.Words.{bit, has, SetOf, TableOf}
 use Rattle.reach.specs.Tests.{Some}
 use Rattle.reach.proofs.Testing.{some-up}
-use Rattle.reach.proofs.WordSets.{set-as, set-at, set-bits, set-none, set-or, below-next}
+use Rattle.reach.proofs.WordSets.{has-decides, set-as, set-at, set-bits, set-none, set-or, below-next}
 use Rattle.judge.specs.Rows.{In, Joined}
 
 -- What a row comes to have.
@@ -35,7 +34,6 @@ spreading-start which added e w = record { long = e; words = w; low = λ j l. ab
 pub spreading-next : {n : ℕ} {old : List ℕ} {which added i : ℕ} {rows : List ℕ} → Spreading n old which added i rows → i < n
     → {v : ℕ} (t : Bool) → t ≡ has which i → SetOf v (λ x. (t ≡ true) × (bit added x ≡ 1))
     → Spreading n old which added (i + 1) (set rows i (bitOr (getD rows i 0) v))
-unfolding has
 spreading-next {n} {old} {which} {added} {i} {rows} s l {v} t e u =
     record {
       long = length-set rows i _ ∙ s .long;
@@ -51,12 +49,12 @@ spreading-next {n} {old} {which} {added} {i} {rows} s l {v} t e u =
         (λ x w.
         ⊎-elim
         (λ b. inl (subst (λ (r : ℕ). bit r x ≡ 1) (s .high i (omega arith)) b))
-        (λ b. inr (eqb-true _ _ (sym e ∙ b .0), b .1))
+        (λ b. inr (has-decides which i .sound (sym e ∙ b .0), b .1))
         w)
         (λ x w.
         ⊎-elim
         (λ b. inl (subst (λ (r : ℕ). bit r x ≡ 1) (sym (s .high i (omega arith))) b))
-        (λ b. inr (e ∙ eq-eqb _ _ (b .0), b .1))
+        (λ b. inr (e ∙ has-decides which i .complete (b .0), b .1))
         w)
 
     here : (j : ℕ) → j ≡ i → Spreads old which added j (getD (set rows i (bitOr (getD rows i 0) v)) j 0)

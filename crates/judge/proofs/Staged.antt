@@ -16,7 +16,7 @@ use Rattle.rules.specs.Records.{sender, request}
 use Rattle.rules.specs.Doing.{after}
 use Rattle.rules.specs.Refusals.{torn, unknown, misfit, stranger, offTheSheet, absent, wrongSort, alreadySo, noAuthority, ownGain, handOver, orphan}
 use Rattle.rules.specs.Judging.{codeOf, done, verdictOn, verdict, accepted, judge}
-use Rattle.judge.specs.Stages.{refused, finished, decided, judged}
+use Rattle.judge.specs.Stages.{answered, finished, decided, judged}
 use Rattle.rules.proofs.Table.{done-accepted}
 
 -- The answer of a verdict.
@@ -24,7 +24,7 @@ abbrev answer : Policy → Request → Verdict → Answer
 answer p q v = record { policy = accepted v ⇒ after p q ∥ p; verdict = v }
 
 row : (p : Policy) (q : Request) (t : Bool) (r v : Verdict) (a : Answer) → accepted r ≡ false → answer p q v ≡ a
-    → answer p q (t ⇒ r ∥ v) ≡ (t ⇒ refused p r ∥ a)
+    → answer p q (t ⇒ r ∥ v) ≡ (t ⇒ answered p r ∥ a)
 row p q true r v a e f = rw e
 row p q false r v a e f = f
 
@@ -33,7 +33,7 @@ last p u q = rw (done-accepted p u q)
 
 stages : (p : Policy) (b : List ℕ) (u : ℕ) (q : Request)
     → answer p q (verdictOn p b u q)
-    ≡ (torn b ⇒ refused p Torn ∥ unknown b ⇒ refused p Unknown ∥ misfit b ⇒ refused p Misfit ∥ stranger p u ⇒ refused p Stranger ∥ decided p u q)
+    ≡ (torn b ⇒ answered p Torn ∥ unknown b ⇒ answered p Unknown ∥ misfit b ⇒ answered p Misfit ∥ stranger p u ⇒ answered p Stranger ∥ decided p u q)
 unfolding verdictOn codeOf decided finished
 stages p b u q =
     row p q (torn b) _ _ _ refl
@@ -57,21 +57,21 @@ judge-staged p b = stages p b (sender b) (request b)
 -- ---- The judge's answer, one law for each way that checks 1 to 4 end
 
 module _ (p : Policy) (b : List ℕ) where
-  pub judge-1 : torn b ≡ true → refused p Torn ≡ judge p b
+  pub judge-1 : torn b ≡ true → answered p Torn ≡ judge p b
   unfolding judged
-  judge-1 e = let s : judged p b ≡ refused p Torn = rw e in sym (judge-staged p b ∙ s)
+  judge-1 e = let s : judged p b ≡ answered p Torn = rw e in sym (judge-staged p b ∙ s)
 
-  pub judge-2 : torn b ≡ false → unknown b ≡ true → refused p Unknown ≡ judge p b
+  pub judge-2 : torn b ≡ false → unknown b ≡ true → answered p Unknown ≡ judge p b
   unfolding judged
-  judge-2 e f = let s : judged p b ≡ refused p Unknown = rw (e, f) in sym (judge-staged p b ∙ s)
+  judge-2 e f = let s : judged p b ≡ answered p Unknown = rw (e, f) in sym (judge-staged p b ∙ s)
 
-  pub judge-3 : torn b ≡ false → unknown b ≡ false → misfit b ≡ true → refused p Misfit ≡ judge p b
+  pub judge-3 : torn b ≡ false → unknown b ≡ false → misfit b ≡ true → answered p Misfit ≡ judge p b
   unfolding judged
-  judge-3 e f g = let s : judged p b ≡ refused p Misfit = rw (e, f, g) in sym (judge-staged p b ∙ s)
+  judge-3 e f g = let s : judged p b ≡ answered p Misfit = rw (e, f, g) in sym (judge-staged p b ∙ s)
 
-  pub judge-4 : torn b ≡ false → unknown b ≡ false → misfit b ≡ false → stranger p (sender b) ≡ true → refused p Stranger ≡ judge p b
+  pub judge-4 : torn b ≡ false → unknown b ≡ false → misfit b ≡ false → stranger p (sender b) ≡ true → answered p Stranger ≡ judge p b
   unfolding judged
-  judge-4 e f g h = let s : judged p b ≡ refused p Stranger = rw (e, f, g, h) in sym (judge-staged p b ∙ s)
+  judge-4 e f g h = let s : judged p b ≡ answered p Stranger = rw (e, f, g, h) in sym (judge-staged p b ∙ s)
 
   pub judge-late : torn b ≡ false → unknown b ≡ false → misfit b ≡ false → stranger p (sender b) ≡ false
       → decided p (sender b) (request b) ≡ judge p b

@@ -15,35 +15,35 @@ use Rattle.rules.specs.Doing.{after}
 use Rattle.rules.specs.Refusals.{torn, unknown, misfit, stranger, offTheSheet, absent, wrongSort, alreadySo, noAuthority, ownGain, handOver, orphan}
 use Rattle.rules.specs.Judging.{done}
 
--- A refusal hands back the policy as it was.
-abbrev pub refused : Policy → Verdict → Answer
-refused p v = record { policy = p; verdict = v }
+-- A policy, and a verdict on it. A refusal hands back the policy as it was.
+abbrev pub answered : Policy → Verdict → Answer
+answered p v = record { policy = p; verdict = v }
 
 -- Checks 9 to 12, and what an accepted request does.
 unfoldable pub finished : Policy → ℕ → Request → Answer
 finished p u q =
-    noAuthority p u q ⇒ refused p NoAuthority ∥
-    ownGain p u q ⇒ refused p OwnGain ∥
-    handOver p u q ⇒ refused p HandOver ∥
-    orphan p q ⇒ refused p Orphan ∥
+    noAuthority p u q ⇒ answered p NoAuthority ∥
+    ownGain p u q ⇒ answered p OwnGain ∥
+    handOver p u q ⇒ answered p HandOver ∥
+    orphan p q ⇒ answered p Orphan ∥
     record { policy = after p q; verdict = done p u q }
 
 -- Checks 5 to 8.
 unfoldable pub decided : Policy → ℕ → Request → Answer
 decided p u q =
-    offTheSheet q ⇒ refused p OffTheSheet ∥
-    absent p q ⇒ refused p Absent ∥
-    wrongSort p q ⇒ refused p WrongSort ∥
-    alreadySo p q ⇒ refused p AlreadySo ∥
+    offTheSheet q ⇒ answered p OffTheSheet ∥
+    absent p q ⇒ answered p Absent ∥
+    wrongSort p q ⇒ answered p WrongSort ∥
+    alreadySo p q ⇒ answered p AlreadySo ∥
     finished p u q
 
 -- Checks 1 to 4.
 unfoldable pub judged : Policy → List ℕ → Answer
 judged p b =
-    torn b ⇒ refused p Torn ∥
-    unknown b ⇒ refused p Unknown ∥
-    misfit b ⇒ refused p Misfit ∥
-    stranger p (sender b) ⇒ refused p Stranger ∥
+    torn b ⇒ answered p Torn ∥
+    unknown b ⇒ answered p Unknown ∥
+    misfit b ⇒ answered p Misfit ∥
+    stranger p (sender b) ⇒ answered p Stranger ∥
     decided p (sender b) (request b)
 
 -- What checks 5 to 8 have shown of a request.

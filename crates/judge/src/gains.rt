@@ -1,4 +1,4 @@
-// Own gain and hand-over of the kinds that can have them. An inner module: the checks before have shown that the sender is a user and that
+// Own gain of the kinds that can have it. An inner module: the checks before have shown that the sender is a user and that
 // the fields fit.
 ghost use mathlib.Core.Path.{_≡_};
 ghost use mathlib.Core.Bool.{true};
@@ -11,12 +11,11 @@ ghost use Rattle.reach.specs.Privileges.{owner, manager, Holds};
 ghost use Rattle.reach.specs.Surveys.{SurveyOf};
 ghost use Rattle.rules.specs.declared.Request.the-variants.{Put, Appoint, Grant};
 ghost use Rattle.rules.specs.Authority.{mayAppoint};
-ghost use Rattle.rules.specs.Refusals.{ownGain, handOver};
+ghost use Rattle.rules.specs.Refusals.{ownGain};
 ghost use Rattle.judge.specs.Stages.{Cleared};
 use crate::Gain;
 use crate::rows::administered;
 use crate::rows::first_gain;
-use crate::rows::handed;
 use crate::rows::new_pair;
 use crate::rows::permitted;
 use crate::rows::put_rows;

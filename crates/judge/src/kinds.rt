@@ -4,7 +4,7 @@ ghost use mathlib.Core.Bool.{true};
 ghost use Rattle.reach.specs.Reach.{isUser};
 ghost use Rattle.rules.specs.declared.Request.the-variants.{Make, Put, Take, Appoint, Dismiss, Grant, Withdraw, Use};
 ghost use Rattle.rules.specs.Authority.{governs, mayAppoint};
-ghost use Rattle.judge.specs.Stages.{refused, finished, decided, Cleared};
+ghost use Rattle.judge.specs.Stages.{answered, finished, decided, Cleared};
 use crate::checks::absent;
 use crate::checks::already_so;
 use crate::checks::off_the_sheet;
@@ -22,9 +22,9 @@ use rules::Answer;
 use rules::Request;
 use rules::Verdict;
 
-// A refusal: the policy as it was.
-pub fn refuse(p: Policy, verdict: Verdict) -> Answer
-    ensures { λ r. ⌜ r ≡ refused p verdict ⌝ }
+// A policy, and a verdict on it.
+pub fn answer(p: Policy, verdict: Verdict) -> Answer
+    ensures { λ r. ⌜ r ≡ answered p verdict ⌝ }
 {
     Answer { policy: p, verdict }
 }
@@ -51,9 +51,9 @@ fn make(p: Policy, u: u8, place: u8, sort: u8, group: u8) -> Answer
     ensures { λ r. ⌜ r ≡ finished p u (Make place sort group) ⌝ }
 {
     if !governs(p, u, group) {
-        return refuse(p, Verdict::NoAuthority);
+        return answer(p, Verdict::NoAuthority);
     }
-    refuse(p.made(place, sort, group), Verdict::Done)
+    answer(p.made(place, sort, group), Verdict::Done)
 }
 
 // PUT.
@@ -62,7 +62,7 @@ fn put(p: Policy, u: u8, object: u8, group: u8) -> Answer
     ensures { λ r. ⌜ r ≡ finished p u (Put object group) ⌝ }
 {
     if !(governs(p, u, object) & governs(p, u, group)) {
-        return refuse(p, Verdict::NoAuthority);
+        return answer(p, Verdict::NoAuthority);
     }
     let s = p.survey();
     let rows = s.closure;
@@ -70,13 +70,13 @@ fn put(p: Policy, u: u8, object: u8, group: u8) -> Answer
     let own = held(appointments, rows, 1, u);
     let managed = held(appointments, rows, 2, u);
     if put_gains(p, s, u, object, group, own, managed) {
-        return refuse(p, Verdict::OwnGain);
+        return answer(p, Verdict::OwnGain);
     }
     let below = row(rows, object);
     if handed(appointments, rows, s.masks.users, group, below & !own) {
-        return refuse(p, Verdict::HandOver);
+        return answer(p, Verdict::HandOver);
     }
-    refuse(p.put(object, group), Verdict::Done)
+    answer(p.put(object, group), Verdict::Done)
 }
 
 // TAKE.
@@ -85,12 +85,12 @@ fn take(p: Policy, u: u8, object: u8, group: u8) -> Answer
 {
     let n = p.taken(object, group);
     if !(governs(p, u, object) & governs(p, u, group)) {
-        return refuse(p, Verdict::NoAuthority);
+        return answer(p, Verdict::NoAuthority);
     }
     if n.orphaned() {
-        return refuse(p, Verdict::Orphan);
+        return answer(p, Verdict::Orphan);
     }
-    refuse(n, Verdict::Done)
+    answer(n, Verdict::Done)
 }
 
 // APPOINT.
@@ -99,12 +99,12 @@ fn appoint(p: Policy, u: u8, place: u8, w: Appointment) -> Answer
     ensures { λ r. ⌜ r ≡ finished p u (Appoint place (w .kind) (w .holder) (w .a) (w .b)) ⌝ }
 {
     if !may_appoint(p, u, w) {
-        return refuse(p, Verdict::NoAuthority);
+        return answer(p, Verdict::NoAuthority);
     }
     if appoint_gains(p, u, place, w) {
-        return refuse(p, Verdict::OwnGain);
+        return answer(p, Verdict::OwnGain);
     }
-    refuse(p.appointed(place, w), Verdict::Done)
+    answer(p.appointed(place, w), Verdict::Done)
 }
 
 // DISMISS.
@@ -112,13 +112,13 @@ fn dismiss(p: Policy, u: u8, place: u8) -> Answer
     ensures { λ r. ⌜ r ≡ finished p u (Dismiss place) ⌝ }
 {
     if !may_appoint(p, u, p.appointment(place)) {
-        return refuse(p, Verdict::NoAuthority);
+        return answer(p, Verdict::NoAuthority);
     }
     let n = p.dismissed(place);
     if n.orphaned() {
-        return refuse(p, Verdict::Orphan);
+        return answer(p, Verdict::Orphan);
     }
-    refuse(n, Verdict::Done)
+    answer(n, Verdict::Done)
 }
 
 // GRANT.
@@ -127,12 +127,12 @@ fn grant(p: Policy, u: u8, place: u8, users: u8, targets: u8, operations: u8) ->
     ensures { λ r. ⌜ r ≡ finished p u (Grant place users targets operations) ⌝ }
 {
     if !p.administers(u, users, targets) {
-        return refuse(p, Verdict::NoAuthority);
+        return answer(p, Verdict::NoAuthority);
     }
     if grant_gains(p, u, place, users, targets, operations) {
-        return refuse(p, Verdict::OwnGain);
+        return answer(p, Verdict::OwnGain);
     }
-    refuse(p.granted(place, users, targets, operations), Verdict::Done)
+    answer(p.granted(place, users, targets, operations), Verdict::Done)
 }
 
 // WITHDRAW.
@@ -141,9 +141,9 @@ fn withdraw(p: Policy, u: u8, place: u8) -> Answer
 {
     let rule = p.rule(place);
     if !p.administers(u, rule.users, rule.targets) {
-        return refuse(p, Verdict::NoAuthority);
+        return answer(p, Verdict::NoAuthority);
     }
-    refuse(p.withdrawn(place), Verdict::Done)
+    answer(p.withdrawn(place), Verdict::Done)
 }
 
 // USE.
@@ -151,8 +151,8 @@ fn use_target(p: Policy, u: u8, target: u8, operation: u8) -> Answer
     ensures { λ r. ⌜ r ≡ finished p u (Use target operation) ⌝ }
 {
     match p.permitting(u, operation, target) {
-        Place::At(i) => refuse(p, Verdict::DoneBy(i)),
-        Place::Nothing => refuse(p, Verdict::NoAuthority),
+        Place::At(i) => answer(p, Verdict::DoneBy(i)),
+        Place::Nothing => answer(p, Verdict::NoAuthority),
     }
 }
 
@@ -163,16 +163,16 @@ pub fn decide(p: Policy, u: u8, q: Request) -> Answer
     ensures { λ r. ⌜ r ≡ decided p u q ⌝ }
 {
     if off_the_sheet(q) {
-        return refuse(p, Verdict::OffTheSheet);
+        return answer(p, Verdict::OffTheSheet);
     }
     if absent(p, q) {
-        return refuse(p, Verdict::Absent);
+        return answer(p, Verdict::Absent);
     }
     if wrong_sort(p, q) {
-        return refuse(p, Verdict::WrongSort);
+        return answer(p, Verdict::WrongSort);
     }
     if already_so(p, q) {
-        return refuse(p, Verdict::AlreadySo);
+        return answer(p, Verdict::AlreadySo);
     }
     finish(p, u, q)
 }

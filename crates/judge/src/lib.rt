@@ -13,8 +13,8 @@ use checks::misfit;
 use checks::torn;
 use checks::unknown;
 use frame::byte;
+use kinds::answer;
 use kinds::decide;
-use kinds::refuse;
 pub use numbers::cited_of;
 pub use numbers::code_of;
 use reach::Policy;
@@ -35,17 +35,17 @@ pub fn judge(p: Policy, bytes: &[u8]) -> Answer
     ensures { λ r. ⌜ OneAnswer p r ⌝ }
 {
     if torn(bytes) {
-        return refuse(p, Verdict::Torn);
+        return answer(p, Verdict::Torn);
     }
     if unknown(bytes) {
-        return refuse(p, Verdict::Unknown);
+        return answer(p, Verdict::Unknown);
     }
     if misfit(bytes) {
-        return refuse(p, Verdict::Misfit);
+        return answer(p, Verdict::Misfit);
     }
     let u = byte(bytes, 4);
     if (63 < u) | !p.is_user(u) {
-        return refuse(p, Verdict::Stranger);
+        return answer(p, Verdict::Stranger);
     }
     decide(p, u, request_of(bytes))
 }

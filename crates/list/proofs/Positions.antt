@@ -13,7 +13,7 @@ use Rattle.rules.specs.declared.Request.{Request}
 use Rattle.rules.specs.Records.{sender, request}
 use Rattle.rules.specs.Judging.{codeOf, verdict, accepted, judge, numbersOf, answers}
 use Rattle.rules.specs.Allowing.{viewAfter, Allowed}
-use Rattle.rules.proofs.Table.{refused-same}
+use Rattle.rules.proofs.Table.{refused-same, answers-next}
 use Rattle.rules.proofs.TwoWordings.{judge-decides, judge-after, judge-sized}
 use Rattle.rules.proofs.Verdicts.{accepted-code, refused-code}
 use Rattle.list.specs.Runs.{Bytes, run, policyAt, before, end, recordAt, Done}
@@ -52,10 +52,10 @@ policy-next start list i h =
 -- The answer at each position.
 pub answer-at : (start : Policy) (list : List Bytes) (i : ℕ) → i < end start list
     → getD (answers start list) i (0, 0) ≡ numbersOf (judge (policyAt start list i) (recordAt start list i) .verdict)
-unfolding answers run
+unfolding run
 answer-at start [] i h = absurd (omega arith)
-answer-at start (b ∷ bs) zero h = refl
-answer-at start (b ∷ bs) (suc i) h = answer-at (judge start b .policy) bs i (omega arith)
+answer-at start (b ∷ bs) zero h = rw (answers-next start b bs)
+answer-at start (b ∷ bs) (suc i) h = rw (answers-next start b bs) (answer-at (judge start b .policy) bs i (omega arith))
 
 module _ (start : Policy) (list : List Bytes) (sized : Sized start) where
   pub data Next (i : ℕ) : Type 0 where

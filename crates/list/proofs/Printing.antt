@@ -5,6 +5,8 @@ use mathlib.Core.List.{List, [], _∷_, _++_, append-assoc, append-nil}
 use Prim.Native.Nat.{ℕ, suc, _+_}
 use native.Mathlib.Nat.{add-zero, zero-add, add-suc, suc-add}
 use lib.ListN.{length}
+use Rattle.rules.specs.declared.Verdict.the-variants.{Torn}
+use Rattle.rules.specs.Judging.{codeOf, citedOf, numbersOf}
 use Rattle.list.specs.Runs.{Bytes}
 use Rattle.list.specs.Text.{digits, decimal, line, lines, tornPlace, Wrote}
 use Rattle.list.proofs.Writing.{wrote-as, wrote-then}
@@ -39,6 +41,11 @@ lines-last l code cited = rw (lines-append 0 l ((code, cited) ∷ []), zero-add,
 -- [01:runner.11] "A torn place prints its index, 1 and 255 as the last line."
 pub torn-line-last : (l : List (ℕ × ℕ)) → lines 0 (l ++ (tornPlace ∷ [])) ≡ lines 0 l ++ line (length l) 1 255
 torn-line-last l = lines-last l 1 255
+
+-- The numbers of a torn place are those of the verdict torn.
+pub torn-numbers : tornPlace ≡ numbersOf Torn
+unfolding codeOf citedOf
+torn-numbers = refl
 
 -- A line that is written after the lines of a list is the list's next.
 pub wrote-next-line : {a b c : Bytes} {n m r : ℕ} (l : List (ℕ × ℕ)) (code cited : ℕ)

@@ -15,6 +15,7 @@ use Rattle.frame.proofs.Steps.{Found, step-record, step-torn}
 use Rattle.frame.proofs.Records.{records-of-record, torn-of-record, records-of-torn, torn-of-torn, records-of-end, torn-of-end}
 use Rattle.rules.specs.declared.Answer.{Answer}
 use Rattle.rules.specs.Judging.{codeOf, citedOf, judge, numbersOf, answers}
+use Rattle.rules.proofs.Table.{answers-none, answers-next}
 use Rattle.list.specs.Runs.{Bytes}
 use Rattle.list.specs.Text.{line, lines, tornPlace, Wrote, Printed}
 use Rattle.list.specs.Report.{answersFrom, report, tooLong, output}
@@ -27,16 +28,16 @@ module _ (p : Policy) (b : Bytes) (at : ℕ) where
   pub answers-of-record : (start len next : ℕ) → stepAt b at ≡ Record start len next
       → answersFrom p b at
       ≡ numbersOf (judge p (recordBytes b start len) .verdict) ∷ answersFrom (judge p (recordBytes b start len) .policy) b next
-  unfolding answersFrom answers
-  answers-of-record start len next e = rw (records-of-record b at start len next e, torn-of-record b at start len next e)
+  unfolding answersFrom
+  answers-of-record start len next e = rw (records-of-record b at start len next e, torn-of-record b at start len next e, answers-next)
 
   pub answers-of-torn : stepAt b at ≡ Torn → answersFrom p b at ≡ tornPlace ∷ []
-  unfolding answersFrom answers
-  answers-of-torn e = rw (records-of-torn b at e, torn-of-torn b at e)
+  unfolding answersFrom
+  answers-of-torn e = rw (records-of-torn b at e, torn-of-torn b at e, answers-none)
 
   pub answers-of-end : stepAt b at ≡ End → answersFrom p b at ≡ []
-  unfolding answersFrom answers
-  answers-of-end e = rw (records-of-end b at e, torn-of-end b at e)
+  unfolding answersFrom
+  answers-of-end e = rw (records-of-end b at e, torn-of-end b at e, answers-none)
 
 -- ---- The loop
 

@@ -14,6 +14,7 @@ use Rattle.reach.specs.Tables.{initial}
 use Rattle.frame.specs.Reading.{recordsFrom, tornFrom}
 use Rattle.frame.proofs.Records.{records-few}
 use Rattle.rules.specs.Judging.{judge, answers}
+use Rattle.rules.proofs.Table.{answers-none, answers-next}
 use Rattle.rules.proofs.Bounded.{code-bounded, cited-bounded}
 use Rattle.list.specs.Runs.{Bytes}
 use Rattle.list.specs.Text.{line, lines, tornPlace, Printed}
@@ -72,14 +73,13 @@ torn-lines-fit l b h =
 
 -- The answers of a list are bounded, and as many as its records.
 answers-bounded : (p : Policy) (bs : List Bytes) → Bounded (answers p bs)
-unfolding answers
-answers-bounded p [] = tt
-answers-bounded p (b ∷ bs) = (code-bounded (judge p b .verdict), cited-bounded p b, answers-bounded (judge p b .policy) bs)
+answers-bounded p [] = rw (answers-none p) tt
+answers-bounded p (b ∷ bs) =
+    rw (answers-next p b bs) (code-bounded (judge p b .verdict), cited-bounded p b, answers-bounded (judge p b .policy) bs)
 
 answers-length : (p : Policy) (bs : List Bytes) → length (answers p bs) ≡ length bs
-unfolding answers
-answers-length p [] = refl
-answers-length p (b ∷ bs) = ap suc (answers-length (judge p b .policy) bs)
+answers-length p [] = rw (answers-none p)
+answers-length p (b ∷ bs) = rw (answers-next p b bs, answers-length (judge p b .policy) bs)
 
 -- The report of an input within the limit.
 pub report-fits : (input : Bytes) → length input ≤ 65536 → length (report input) ≤ 212992

@@ -13,11 +13,12 @@ use borrow.Author.Tests.{le-leb, lt-leb}
 use Rattle.reach.specs.declared.Policy.{Policy}
 use Rattle.reach.specs.Tests.{_⇒_∥_}
 use Rattle.rules.specs.declared.Answer.{Answer}
-use Rattle.rules.specs.Judging.{codeOf, citedOf as citedBy, judge, numbersOf, answers}
+use Rattle.rules.specs.Judging.{codeOf, citedOf, judge, answers}
+use Rattle.rules.proofs.Table.{answers-none, answers-next}
 use Rattle.list.specs.declared.Outcome.{Outcome}
 use Rattle.list.specs.Runs.{Bytes, run}
 use Rattle.list.specs.Parts.{part, parts, handed}
-use Rattle.list.specs.Filling.{codesOf, citedOf, over, room, RunInto}
+use Rattle.list.specs.Filling.{codesOf, citesOf, over, room, RunInto}
 use Rattle.list.proofs.Handed.{parts-length}
 
 -- ---- Buffers
@@ -43,7 +44,7 @@ codes-append : (l : List (ℕ × ℕ)) (code cited : ℕ) → codesOf (l ++ ((co
 codes-append [] code cited = refl
 codes-append ((c, d) ∷ rest) code cited = ap (λ (l : Bytes). c ∷ l) (codes-append rest code cited)
 
-cited-append : (l : List (ℕ × ℕ)) (code cited : ℕ) → citedOf (l ++ ((code, cited) ∷ [])) ≡ citedOf l ++ (cited ∷ [])
+cited-append : (l : List (ℕ × ℕ)) (code cited : ℕ) → citesOf (l ++ ((code, cited) ∷ [])) ≡ citesOf l ++ (cited ∷ [])
 cited-append [] code cited = refl
 cited-append ((c, d) ∷ rest) code cited = ap (λ (l : Bytes). d ∷ l) (cited-append rest code cited)
 
@@ -51,7 +52,7 @@ codes-length : (l : List (ℕ × ℕ)) → length (codesOf l) ≡ length l
 codes-length [] = refl
 codes-length ((c, d) ∷ rest) = ap suc (codes-length rest)
 
-cited-length : (l : List (ℕ × ℕ)) → length (citedOf l) ≡ length l
+cited-length : (l : List (ℕ × ℕ)) → length (citesOf l) ≡ length l
 cited-length [] = refl
 cited-length ((c, d) ∷ rest) = ap suc (cited-length rest)
 
@@ -65,7 +66,7 @@ module _ (b ends codes₀ cited₀ : Bytes) (first : Policy) where
     pub so-far : List (ℕ × ℕ)
     pub count : length so-far ≡ i
     pub codes-filled : codes ≡ over (codesOf so-far) codes₀
-    pub cited-filled : cited ≡ over (citedOf so-far) cited₀
+    pub cited-filled : cited ≡ over (citesOf so-far) cited₀
     pub policy-to-come : run p (parts b start (drop i ends)) ≡ run first (handed b ends)
     pub answers-to-come : so-far ++ answers p (parts b start (drop i ends)) ≡ answers first (handed b ends)
 
@@ -91,16 +92,17 @@ module _ (b ends codes₀ cited₀ : Bytes) (first : Policy) where
   pub running-cited : {codes cited : Bytes} {p : Policy} {start i : ℕ} → Running codes cited p start i → length cited ≡ length cited₀
   running-cited s =
       ap length (s .cited-filled)
-      ∙ over-length (citedOf (s .so-far)) cited₀ (omega (arith, cited-length (s .so-far), s .count, s .within, s .cited-room))
+      ∙ over-length (citesOf (s .so-far)) cited₀ (omega (arith, cited-length (s .so-far), s .count, s .within, s .cited-room))
 
   pub running-end : {codes cited : Bytes} {p : Policy} {start i : ℕ} → Running codes cited p start i → length ends ≤ i
       → RunInto first (handed b ends) codes₀ cited₀ codes cited (record { ran = true; policy = p })
-  unfolding parts run answers
+  unfolding parts run
   running-end {codes} {cited} {p} {start} {i} s h =
       let none : drop i ends ≡ [] = drop-of-length-le ends h in
       let last : p ≡ run first (handed b ends) = ap (λ (l : Bytes). run p (parts b start l)) (sym none) ∙ s .policy-to-come in
       let all : s .so-far ≡ answers first (handed b ends) =
       sym (append-nil (s .so-far))
+      ∙ ap (λ (l : List (ℕ × ℕ)). s .so-far ++ l) (sym (answers-none p))
       ∙ ap (λ (l : Bytes). s .so-far ++ answers p (parts b start l)) (sym none)
       ∙ s .answers-to-come in
       let fits : room (handed b ends) codes₀ cited₀ ≡ true =
@@ -113,9 +115,9 @@ module _ (b ends codes₀ cited₀ : Bytes) (first : Policy) where
 
   module _ {codes cited : Bytes} {p : Policy} {start i : ℕ} (s : Running codes cited p start i) (low : i < length ends) where
     pub running-step : (a : Answer) (code cite : ℕ) → a ≡ judge p (part b start (getD ends i 0))
-        → code ≡ codeOf (a .verdict) → cite ≡ citedBy (a .verdict)
+        → code ≡ codeOf (a .verdict) → cite ≡ citedOf (a .verdict)
         → Running (set codes i code) (set cited i cite) (a .policy) (getD ends i 0) (i + 1)
-    unfolding parts run answers
+    unfolding parts run
     running-step a code cite e f g =
         let to-come : parts b start (drop i ends) ≡ part b start (getD ends i 0) ∷ parts b (getD ends i 0) (drop (suc i) ends) =
         ap (parts b start) (drop-cons ends i 0 low) in
@@ -129,10 +131,14 @@ module _ (b ends codes₀ cited₀ : Bytes) (first : Policy) where
               filled-next (codesOf (s .so-far)) codes₀ code (s .codes-filled) (codes-length (s .so-far) ∙ s .count) (omega (arith, s .codes-room))
               ∙ ap (λ (l : Bytes). over l codes₀) (sym (codes-append (s .so-far) code cite));
           cited-filled =
-              filled-next (citedOf (s .so-far)) cited₀ cite (s .cited-filled) (cited-length (s .so-far) ∙ s .count) (omega (arith, s .cited-room))
+              filled-next (citesOf (s .so-far)) cited₀ cite (s .cited-filled) (cited-length (s .so-far) ∙ s .count) (omega (arith, s .cited-room))
               ∙ ap (λ (l : Bytes). over l cited₀) (sym (cited-append (s .so-far) code cite));
           policy-to-come = rw (add-one, e) (ap (run p) (sym to-come) ∙ s .policy-to-come);
-          answers-to-come = rw (add-one, f, g, e, append-assoc) (ap (λ (l : List Bytes). s .so-far ++ answers p l) (sym to-come) ∙ s .answers-to-come);
+          answers-to-come =
+              rw (add-one, f, g, e, append-assoc)
+              (ap (λ (l : List (ℕ × ℕ)). s .so-far ++ l) (sym (answers-next p (part b start (getD ends i 0)) (parts b (getD ends i 0) (drop (suc i) ends))))
+              ∙ ap (λ (l : List Bytes). s .so-far ++ answers p l) (sym to-come)
+              ∙ s .answers-to-come);
         }
 
 -- Equal starts run alike.

@@ -35,6 +35,7 @@ wrote-byte buffer n byte room = record {
   length-kept = simp length-set;
   extends = extended;
   onward = omega arith;
+  nothing-past = λ past. absurd (omega arith);
   rest-kept = drop-set-lt (n + 1) buffer n byte (omega arith);
 }
   where
@@ -51,7 +52,7 @@ wrote-byte buffer n byte room = record {
 
 -- A byte that a full buffer has no room for is cut off.
 pub wrote-full : (buffer : Bytes) (n byte : ℕ) → length buffer ≤ n → Wrote buffer n (byte ∷ []) buffer n
-wrote-full buffer n byte full = record { length-kept = refl; extends = extended; onward = le-refl n; rest-kept = refl }
+wrote-full buffer n byte full = record { length-kept = refl; extends = extended; onward = le-refl n; nothing-past = λ past. (refl, refl); rest-kept = refl }
   where
     extended : (text : Bytes) → Holds buffer n text → Holds buffer n (text ++ (byte ∷ []))
     extended text h = record {
@@ -61,7 +62,7 @@ wrote-full buffer n byte full = record { length-kept = refl; extends = extended;
 
 -- Nothing written is no change.
 pub wrote-none : (buffer : Bytes) (n : ℕ) → Wrote buffer n [] buffer n
-wrote-none buffer n = record { length-kept = refl; extends = λ text h. rw append-nil h; onward = le-refl n; rest-kept = refl }
+wrote-none buffer n = record { length-kept = refl; extends = λ text h. rw append-nil h; onward = le-refl n; nothing-past = λ past. (refl, refl); rest-kept = refl }
 
 -- Equal texts are written alike.
 pub wrote-as : {a v w b : Bytes} {n r : ℕ} → v ≡ w → Wrote a n v b r → Wrote a n w b r
@@ -79,6 +80,10 @@ wrote-then {a} {v} {b} {n = n} {m} {r} p q = record {
   length-kept = q .length-kept ∙ p .length-kept;
   extends = λ text h. rw append-assoc at (q .extends (text ++ v) (p .extends text h));
   onward = omega (arith, p .onward, q .onward);
+  nothing-past = λ past.
+      let first = p .nothing-past past in
+      let second = q .nothing-past (rw (first .0, first .1) past) in
+      (second .0 ∙ first .0, second .1 ∙ first .1);
   rest-kept = q .rest-kept ∙ drop-further b a (p .rest-kept) (q .onward);
 }
 

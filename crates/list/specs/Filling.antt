@@ -16,9 +16,9 @@ abbrev pub codesOf : List (ℕ × ℕ) → Bytes
 codesOf [] = []
 codesOf ((code, cited) ∷ rest) = code ∷ codesOf rest
 
-abbrev pub citedOf : List (ℕ × ℕ) → Bytes
-citedOf [] = []
-citedOf ((code, cited) ∷ rest) = cited ∷ citedOf rest
+abbrev pub citesOf : List (ℕ × ℕ) → Bytes
+citesOf [] = []
+citesOf ((code, cited) ∷ rest) = cited ∷ citesOf rest
 
 -- A buffer with bytes written over its first ones; the others are as they were.
 abbrev pub over : Bytes → Bytes → Bytes
@@ -33,4 +33,4 @@ room list codes cited = leb (length list) (length codes) && leb (length list) (l
 pub record RunInto (start : Policy) (list : List Bytes) (codes cited codes′ cited′ : Bytes) (r : Outcome) : Type 0 where
   pub outcome : r ≡ (room list codes cited ⇒ record { ran = true; policy = run start list } ∥ record { ran = false; policy = start })
   pub codes-written : codes′ ≡ (room list codes cited ⇒ over (codesOf (answers start list)) codes ∥ codes)
-  pub cited-written : cited′ ≡ (room list codes cited ⇒ over (citedOf (answers start list)) cited ∥ cited)
+  pub cited-written : cited′ ≡ (room list codes cited ⇒ over (citesOf (answers start list)) cited ∥ cited)

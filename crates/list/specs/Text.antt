@@ -37,7 +37,7 @@ pub record DecimalOf (x : ℕ) (text : Bytes) : Type 0 where
   pub no-leading-zero : getD text 0 0 ≡ 48 → length text ≡ 1
 
 -- [01:runner.10] "From a founding it prints per record: index from 0, code, cited." The three numbers, with one space (32) between
--- two. R16: each line ends in a line feed (10).
+-- two. D27: each line ends in a line feed (10).
 unfoldable pub line : ℕ → ℕ → ℕ → Bytes
 line index code cited = decimal index ++ (32 ∷ []) ++ decimal code ++ (32 ∷ []) ++ decimal cited ++ (10 ∷ [])
 
@@ -57,11 +57,12 @@ pub record Holds (buffer : Bytes) (n : ℕ) (text : Bytes) : Type 0 where
   pub same : take n buffer ≡ take (length buffer) text
 
 -- A buffer that held some text up to n became buffer′, of the same length, which holds that text and behind it the one added, up to n′.
--- What lies behind that is as it was.
+-- What lies behind that is as it was, and from the end of the buffer on nothing is written.
 pub record Wrote (buffer : Bytes) (n : ℕ) (added buffer′ : Bytes) (n′ : ℕ) : Type 0 where
   pub length-kept : length buffer′ ≡ length buffer
   pub extends : (text : Bytes) → Holds buffer n text → Holds buffer′ n′ (text ++ added)
   pub onward : n ≤ n′
+  pub nothing-past : length buffer ≤ n → (buffer′ ≡ buffer) × (n′ ≡ n)
   pub rest-kept : drop n′ buffer′ ≡ drop n′ buffer
 
 -- The text stands at the start of the buffer, cut off where the buffer ends, behind it what stood there before; n counts its bytes there.

@@ -1,5 +1,4 @@
 // What the program prints for its input. A buffer that is too small gets as much of the text as it has room for.
-ghost use mathlib.Core.Path.{_≡_};
 ghost use Rattle.list.specs.Text.{Printed};
 ghost use Rattle.list.specs.Report.{report, output};
 use crate::text::put_bytes;

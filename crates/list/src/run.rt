@@ -32,7 +32,8 @@ pub fn run_from(
     codes: &mut [u8],
     cited: &mut [u8],
 ) -> Outcome
-    ensures { λ r. ⌜ RunInto p (handed (now (bytes .entry)) (now (ends .entry))) (now (codes .entry)) (now (cited .entry)) (now (codes .exit)) (now (cited .exit)) r ⌝ }
+    ensures { λ r. ⌜ RunInto p (handed (now (bytes .entry)) (now (ends .entry)))
+        (now (codes .entry)) (now (cited .entry)) (now (codes .exit)) (now (cited .exit)) r ⌝ }
 {
     if codes.len() < ends.len() {
         return Outcome {
@@ -67,7 +68,8 @@ pub fn run_from(
 
 // Runs a list from the founding; and of that list demand 3 holds, whole.
 pub fn run_list(bytes: &[u8], ends: &[usize], codes: &mut [u8], cited: &mut [u8]) -> Outcome
-    ensures { λ r. ⌜ RunInto initial (handed (now (bytes .entry)) (now (ends .entry))) (now (codes .entry)) (now (cited .entry)) (now (codes .exit)) (now (cited .exit)) r ⌝ }
+    ensures { λ r. ⌜ RunInto initial (handed (now (bytes .entry)) (now (ends .entry)))
+        (now (codes .entry)) (now (cited .entry)) (now (codes .exit)) (now (cited .exit)) r ⌝ }
     ensures { λ r. ⌜ FoundingDemand3 (handed (now (bytes .entry)) (now (ends .entry))) ⌝ }
 {
     run_from(Policy::initial(), bytes, ends, codes, cited)

@@ -15,6 +15,7 @@ use lib.Count.{trailingZeros}
 use borrow.Author.Tests.{eqb-true, eqb-false, eq-eqb, not-true, not-false}
 use Rattle.reach.specs.Words.{bit, has, SetOf}
 use Rattle.reach.specs.Tests.{Some, Decides}
+use Rattle.reach.proofs.Testing.{decides-eqb}
 use Rattle.reach.proofs.Bits.{bit-le, bit-two, bit-clash, bit-none, bit-high, bit-or, bit-and, bit-not, one-shl, one-shl-half, bit-low-half, bit-high-half, bit-one, bit-one-only, lowest-bit}
 
 -- A word is the set of its bits.
@@ -101,6 +102,11 @@ module _ {P : ℕ → Type 0} where
       go : (b : Bool) → has s x ≡ b → b ≡ false
       go true e = sym (d .complete (decides-has p x .sound e))
       go false e = refl
+
+-- Of any word, the test decides its bit.
+pub has-decides : (s x : ℕ) → Decides (has s x) (bit s x ≡ 1)
+unfolding has
+has-decides s x = decides-eqb (bit s x) 1
 
 -- What an answer says that was `!has(s, x)`.
 module _ {P : ℕ → Type 0} {s x : ℕ} where

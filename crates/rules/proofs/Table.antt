@@ -2,7 +2,7 @@
 -- one that does not hands on.
 use mathlib.Core.Path.{_≡_, refl, sym, _∙_}
 use mathlib.Core.Bool.{Bool, true, false, true≢false}
-use mathlib.Core.List.{List}
+use mathlib.Core.List.{List, [], _∷_}
 use Prim.Native.Nat.{ℕ}
 use lib.Dec.{eqb}
 use Rattle.reach.specs.declared.Policy.{Policy}
@@ -17,7 +17,7 @@ use Rattle.rules.specs.declared.Verdict.{Verdict}
 use Rattle.rules.specs.Records.{sender, request}
 use Rattle.rules.specs.Doing.{after}
 use Rattle.rules.specs.Refusals.{torn, unknown, misfit, stranger, offTheSheet, absent, wrongSort, alreadySo, noAuthority, ownGain, handOver, orphan}
-use Rattle.rules.specs.Judging.{codeOf, doneBy, done, verdictOn, verdict, accepted, judge}
+use Rattle.rules.specs.Judging.{codeOf, doneBy, done, verdictOn, verdict, accepted, judge, numbersOf, answers}
 
 -- Each check by its name.
 pub record Passed (p : Policy) (b : List ℕ) (u : ℕ) (q : Request) : Type 0 where
@@ -155,3 +155,13 @@ refused-same p b e = rw e
 pub accepted-after : (p : Policy) (b : List ℕ) → accepted (verdict p b) ≡ true → judge p b .policy ≡ after p (request b)
 unfolding judge
 accepted-after p b e = rw e
+
+-- The answers of a list, record by record.
+pub answers-none : (p : Policy) → answers p [] ≡ []
+unfolding answers
+answers-none p = refl
+
+pub answers-next : (p : Policy) (b : List ℕ) (bs : List (List ℕ))
+    → answers p (b ∷ bs) ≡ numbersOf (judge p b .verdict) ∷ answers (judge p b .policy) bs
+unfolding answers
+answers-next p b bs = refl

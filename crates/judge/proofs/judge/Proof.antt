@@ -20,29 +20,29 @@ both p b {a} e = (e, one-answer p b a e)
 torn-requires : tie.Need-torn-requires
 torn-requires c κs = search needs
 
-refuse-requires : tie.Need-refuse-requires
-refuse-requires c κs = search needs
+answer-requires : tie.Need-answer-requires
+answer-requires c κs = search needs
 
 returns : tie.Need-returns
-returns c = both _ _ (c .refuse .ensures ∙ judge-1 _ _ (sym (c .before .before .torn .ensures) ∙ c .before .if1 .taken))
+returns c = both _ _ (c .answer .ensures ∙ judge-1 _ _ (sym (c .before .before .torn .ensures) ∙ c .before .if1 .taken))
 
 unknown-requires : tie.Need-unknown-requires
 unknown-requires c κs = search needs
 
-refuse-requires-2 : tie.Need-refuse-requires-2
-refuse-requires-2 c κs = search needs
+answer-requires-2 : tie.Need-answer-requires-2
+answer-requires-2 c κs = search needs
 
 returns-2 : tie.Need-returns-2
-returns-2 c = both _ _ (c .refuse2 .ensures ∙ judge-2 _ _ (sym (c .before .before .before .before .torn .ensures) ∙ c .before .before .before .if1 .left) (sym (c .before .before .unknown .ensures) ∙ c .before .if2 .taken))
+returns-2 c = both _ _ (c .answer2 .ensures ∙ judge-2 _ _ (sym (c .before .before .before .before .torn .ensures) ∙ c .before .before .before .if1 .left) (sym (c .before .before .unknown .ensures) ∙ c .before .if2 .taken))
 
 misfit-requires : tie.Need-misfit-requires
 misfit-requires c κs = search needs
 
-refuse-requires-3 : tie.Need-refuse-requires-3
-refuse-requires-3 c κs = search needs
+answer-requires-3 : tie.Need-answer-requires-3
+answer-requires-3 c κs = search needs
 
 returns-3 : tie.Need-returns-3
-returns-3 c = both _ _ (c .refuse3 .ensures ∙ judge-3 _ _ (sym (c .before .before .before .before .before .before .torn .ensures) ∙ c .before .before .before .before .before .if1 .left) (sym (c .before .before .before .before .unknown .ensures) ∙ c .before .before .before .if2 .left) (sym (c .before .before .misfit .ensures) ∙ c .before .if3 .taken))
+returns-3 c = both _ _ (c .answer3 .ensures ∙ judge-3 _ _ (sym (c .before .before .before .before .before .before .torn .ensures) ∙ c .before .before .before .before .before .if1 .left) (sym (c .before .before .before .before .unknown .ensures) ∙ c .before .before .before .if2 .left) (sym (c .before .before .misfit .ensures) ∙ c .before .if3 .taken))
 
 byte-requires : tie.Need-byte-requires
 byte-requires c κs = search needs
@@ -50,11 +50,11 @@ byte-requires c κs = search needs
 is-user-requires : tie.Need-is-user-requires
 is-user-requires c κs = search needs
 
-refuse-requires-4 : tie.Need-refuse-requires-4
-refuse-requires-4 c κs = search needs
+answer-requires-4 : tie.Need-answer-requires-4
+answer-requires-4 c κs = search needs
 
 returns-4 : tie.Need-returns-4
-returns-4 c = both _ _ (c .refuse4 .ensures
+returns-4 c = both _ _ (c .answer4 .ensures
     ∙ judge-4 _ _ (sym (c .before .before .before .before .before .before .before .before .before .torn .ensures) ∙ c .before .before .before .before .before .before .before .before .if1 .left) (sym (c .before .before .before .before .before .before .before .unknown .ensures) ∙ c .before .before .before .before .before .before .if2 .left) (sym (c .before .before .before .before .before .misfit .ensures) ∙ c .before .before .before .before .if3 .left)
     (stranger-is _ (now (c .before .before .before .before .before .before .before .before .before .before .before .args .bytes)) (c .before .before .before .byte .ensures) (c .before .before .is-user .ensures) (c .before .if4 .taken)))
 
@@ -75,17 +75,17 @@ judge-spec =
     tie.close
     (tie.spec
     torn-requires
-    refuse-requires
+    answer-requires
     returns
     unknown-requires
-    refuse-requires-2
+    answer-requires-2
     returns-2
     misfit-requires
-    refuse-requires-3
+    answer-requires-3
     returns-3
     byte-requires
     is-user-requires
-    refuse-requires-4
+    answer-requires-4
     returns-4
     request-of-requires
     decide-requires

@@ -9,7 +9,7 @@ use Rattle.rules.specs.Judging.{done}
 use Rattle.reach.specs.declared.Policy.{Policy}
 use Rattle.rules.specs.declared.Verdict.the-variants.{Done}
 use Rattle.rules.specs.declared.Request.the-variants.{Dismiss}
-use Rattle.judge.specs.Stages.{refused}
+use Rattle.judge.specs.Stages.{answered}
 use Rattle.rules.specs.Authority.{mayAppoint}
 use Rattle.reach.specs.Privileges.{orphaned}
 use Rattle.judge.proofs.Finishing.{finished-9, finished-12, finished-0}
@@ -23,12 +23,12 @@ appointment-requires c κs = search needs
 may-appoint-requires : tie.Need-may-appoint-requires
 may-appoint-requires c κs = search needs
 
-refuse-requires : tie.Need-refuse-requires
-refuse-requires c κs = search needs
+answer-requires : tie.Need-answer-requires
+answer-requires c κs = search needs
 
 returns : tie.Need-returns
 unfolding may after done ownGain handOver orphan
-returns c = c .refuse .ensures ∙ finished-9 _ _ (Dismiss _) (ap (mayAppoint _ _) (sym (c .before .before .before .appointment .ensures)) ∙ sym (c .before .before .may-appoint .ensures) ∙ not-true _ (c .before .if1 .taken))
+returns c = c .answer .ensures ∙ finished-9 _ _ (Dismiss _) (ap (mayAppoint _ _) (sym (c .before .before .before .appointment .ensures)) ∙ sym (c .before .before .may-appoint .ensures) ∙ not-true _ (c .before .if1 .taken))
 
 dismissed-requires : tie.Need-dismissed-requires
 dismissed-requires c κs = search needs
@@ -36,24 +36,24 @@ dismissed-requires c κs = search needs
 orphaned-requires : tie.Need-orphaned-requires
 orphaned-requires c κs = search needs
 
-refuse-requires-2 : tie.Need-refuse-requires-2
-refuse-requires-2 c κs = search needs
+answer-requires-2 : tie.Need-answer-requires-2
+answer-requires-2 c κs = search needs
 
 returns-2 : tie.Need-returns-2
 unfolding may after done ownGain handOver orphan
 returns-2 c =
-    c .refuse2 .ensures
+    c .answer2 .ensures
     ∙ finished-12 _ _ (Dismiss _) (ap (mayAppoint _ _) (sym (c .before .before .before .before .before .before .appointment .ensures)) ∙ sym (c .before .before .before .before .before .may-appoint .ensures) ∙ not-false _ (c .before .before .before .before .if1 .left)) refl refl
     (ap orphaned (sym (c .before .before .before .dismissed .ensures)) ∙ sym (c .before .before .orphaned .ensures) ∙ c .before .if2 .taken)
 
-refuse-requires-3 : tie.Need-refuse-requires-3
-refuse-requires-3 c κs = search needs
+answer-requires-3 : tie.Need-answer-requires-3
+answer-requires-3 c κs = search needs
 
 returns-3 : tie.Need-returns-3
 unfolding may after done ownGain handOver orphan
 returns-3 c =
-    c .refuse3 .ensures
-    ∙ ap (λ (n : Policy). refused n Done) (c .before .before .before .dismissed .ensures)
+    c .answer3 .ensures
+    ∙ ap (λ (n : Policy). answered n Done) (c .before .before .before .dismissed .ensures)
     ∙ finished-0 _ _ (Dismiss _) (ap (mayAppoint _ _) (sym (c .before .before .before .before .before .before .appointment .ensures)) ∙ sym (c .before .before .before .before .before .may-appoint .ensures) ∙ not-false _ (c .before .before .before .before .if1 .left)) refl refl
     (ap orphaned (sym (c .before .before .before .dismissed .ensures)) ∙ sym (c .before .before .orphaned .ensures) ∙ c .before .if2 .left)
 
@@ -63,11 +63,11 @@ dismiss-spec =
     (tie.spec
     appointment-requires
     may-appoint-requires
-    refuse-requires
+    answer-requires
     returns
     dismissed-requires
     orphaned-requires
-    refuse-requires-2
+    answer-requires-2
     returns-2
-    refuse-requires-3
+    answer-requires-3
     returns-3)

@@ -8,7 +8,7 @@ use Rattle.rules.specs.Authority.{may}
 use Rattle.rules.specs.Doing.{after}
 use Rattle.rules.specs.Refusals.{handOver, orphan}
 use Rattle.rules.specs.Judging.{done}
-use Rattle.judge.specs.Stages.{refused}
+use Rattle.judge.specs.Stages.{answered}
 use Rattle.judge.proofs.Finishing.{finished-9, finished-10, finished-0}
 use borrow.Author.Needs.{needs}
 use Rattle.judge.proofs.kinds.grant.Statement.{statement}
@@ -17,44 +17,44 @@ use Rattle.judge.proofs.kinds.grant.Tie as tie
 administers-requires : tie.Need-administers-requires
 administers-requires c κs = search needs
 
-refuse-requires : tie.Need-refuse-requires
-refuse-requires c κs = search needs
+answer-requires : tie.Need-answer-requires
+answer-requires c κs = search needs
 
 returns : tie.Need-returns
 unfolding may
 returns c =
     let a = c .before .before .before .args in
-    c .refuse .ensures
+    c .answer .ensures
     ∙ finished-9 (a .p) (a .u) (Grant (a .place) (a .users) (a .targets) (a .operations)) (sym (c .before .before .administers .ensures) ∙ not-true _ (c .before .if1 .taken))
 
 grant-gains-requires : tie.Need-grant-gains-requires
 grant-gains-requires c κs = c .before .before .pre
 
-refuse-requires-2 : tie.Need-refuse-requires-2
-refuse-requires-2 c κs = search needs
+answer-requires-2 : tie.Need-answer-requires-2
+answer-requires-2 c κs = search needs
 
 returns-2 : tie.Need-returns-2
 unfolding may
 returns-2 c =
-    c .refuse2 .ensures
+    c .answer2 .ensures
     ∙ finished-10 _ _ (Grant _ _ _ _) (sym (c .before .before .before .before .administers .ensures) ∙ not-false _ (c .before .before .before .if1 .left))
     (sym (c .before .before .grant-gains .ensures) ∙ c .before .if2 .taken)
 
 granted-requires : tie.Need-granted-requires
 granted-requires c κs = search needs
 
-refuse-requires-3 : tie.Need-refuse-requires-3
-refuse-requires-3 c κs = search needs
+answer-requires-3 : tie.Need-answer-requires-3
+answer-requires-3 c κs = search needs
 
 returns-3 : tie.Need-returns-3
 unfolding may after done handOver orphan
 returns-3 c =
-    c .refuse3 .ensures
-    ∙ ap (λ (n : Policy). refused n Done) (c .before .granted .ensures)
+    c .answer3 .ensures
+    ∙ ap (λ (n : Policy). answered n Done) (c .before .granted .ensures)
     ∙ finished-0 _ _ (Grant _ _ _ _) (sym (c .before .before .before .before .before .administers .ensures) ∙ not-false _ (c .before .before .before .before .if1 .left))
     (sym (c .before .before .before .grant-gains .ensures) ∙ c .before .before .if2 .left) refl refl
 
 pub grant-spec : {M : Type 1} → statement M
 grant-spec =
     tie.close
-    (tie.spec administers-requires refuse-requires returns grant-gains-requires refuse-requires-2 returns-2 granted-requires refuse-requires-3 returns-3)
+    (tie.spec administers-requires answer-requires returns grant-gains-requires answer-requires-2 returns-2 granted-requires answer-requires-3 returns-3)

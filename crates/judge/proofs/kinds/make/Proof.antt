@@ -9,7 +9,7 @@ use Rattle.rules.specs.Judging.{done}
 use Rattle.reach.specs.declared.Policy.{Policy}
 use Rattle.rules.specs.declared.Verdict.the-variants.{Done}
 use Rattle.rules.specs.declared.Request.the-variants.{Make}
-use Rattle.judge.specs.Stages.{refused}
+use Rattle.judge.specs.Stages.{answered}
 use Rattle.judge.proofs.Finishing.{finished-9, finished-0}
 use borrow.Author.Needs.{needs}
 use Rattle.judge.proofs.kinds.make.Statement.{statement}
@@ -18,27 +18,27 @@ use Rattle.judge.proofs.kinds.make.Tie as tie
 governs-requires : tie.Need-governs-requires
 governs-requires c κs = search needs
 
-refuse-requires : tie.Need-refuse-requires
-refuse-requires c κs = search needs
+answer-requires : tie.Need-answer-requires
+answer-requires c κs = search needs
 
 returns : tie.Need-returns
 unfolding may after done ownGain handOver orphan
-returns c = c .refuse .ensures ∙ finished-9 _ _ (Make _ _ _) (sym (c .before .before .governs .ensures) ∙ not-true _ (c .before .if1 .taken))
+returns c = c .answer .ensures ∙ finished-9 _ _ (Make _ _ _) (sym (c .before .before .governs .ensures) ∙ not-true _ (c .before .if1 .taken))
 
 made-requires : tie.Need-made-requires
 made-requires c κs = search needs
 
-refuse-requires-2 : tie.Need-refuse-requires-2
-refuse-requires-2 c κs = search needs
+answer-requires-2 : tie.Need-answer-requires-2
+answer-requires-2 c κs = search needs
 
 returns-2 : tie.Need-returns-2
 unfolding may after done ownGain handOver orphan
 returns-2 c =
-    c .refuse2 .ensures
-    ∙ ap (λ (n : Policy). refused n Done) (c .before .made .ensures)
+    c .answer2 .ensures
+    ∙ ap (λ (n : Policy). answered n Done) (c .before .made .ensures)
     ∙ finished-0 _ _ (Make _ _ _) (sym (c .before .before .before .governs .ensures) ∙ not-false _ (c .before .before .if1 .left)) refl refl refl
 
 pub make-spec : {M : Type 1} → statement M
 make-spec =
     tie.close
-    (tie.spec governs-requires refuse-requires returns made-requires refuse-requires-2 returns-2)
+    (tie.spec governs-requires answer-requires returns made-requires answer-requires-2 returns-2)

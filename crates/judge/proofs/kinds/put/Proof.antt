@@ -12,7 +12,7 @@ use Rattle.rules.specs.Authority.{may}
 use Rattle.rules.specs.Doing.{after}
 use Rattle.rules.specs.Refusals.{orphan}
 use Rattle.rules.specs.Judging.{done}
-use Rattle.judge.specs.Stages.{refused}
+use Rattle.judge.specs.Stages.{answered}
 use Rattle.judge.proofs.Surveyed.{held-set}
 use Rattle.judge.proofs.Handing.{hand-over-is}
 use Rattle.judge.proofs.Finishing.{finished-9, finished-10, finished-11, finished-0}
@@ -30,12 +30,12 @@ governs-requires c κs = search needs
 governs-requires-2 : tie.Need-governs-requires-2
 governs-requires-2 c κs = search needs
 
-refuse-requires : tie.Need-refuse-requires
-refuse-requires c κs = search needs
+answer-requires : tie.Need-answer-requires
+answer-requires c κs = search needs
 
 returns : tie.Need-returns
 unfolding may
-returns c = c .refuse .ensures ∙ finished-9 _ _ (Put _ _) (sym (ap₂ _&&_ (c .before .before .before .governs .ensures) (c .before .before .governs2 .ensures)) ∙ not-true _ (c .before .if1 .taken))
+returns c = c .answer .ensures ∙ finished-9 _ _ (Put _ _) (sym (ap₂ _&&_ (c .before .before .before .governs .ensures) (c .before .before .governs2 .ensures)) ∙ not-true _ (c .before .if1 .taken))
 
 survey-requires : tie.Need-survey-requires
 survey-requires c κs = search needs
@@ -50,13 +50,13 @@ put-gains-requires : tie.Need-put-gains-requires
 put-gains-requires c κs =
     (c .before .before .before .before .before .before .before .before .pre .0, c .before .before .before .before .before .before .before .before .pre .1, c .before .before .before .before .survey .ensures, held-set (c .before .before .before .before .before .before .before .before .args .p) _ (c .before .before .before .before .survey .ensures .closure) (eqb-true _ 2 (c .before .before .before .before .before .before .before .before .pre .0)) (c .before .held .ensures), held-set (c .before .before .before .before .before .before .before .before .args .p) _ (c .before .before .before .before .survey .ensures .closure) (eqb-true _ 2 (c .before .before .before .before .before .before .before .before .pre .0)) (c .held2 .ensures))
 
-refuse-requires-2 : tie.Need-refuse-requires-2
-refuse-requires-2 c κs = search needs
+answer-requires-2 : tie.Need-answer-requires-2
+answer-requires-2 c κs = search needs
 
 returns-2 : tie.Need-returns-2
 unfolding may
 returns-2 c =
-    c .refuse2 .ensures
+    c .answer2 .ensures
     ∙ finished-10 _ _ (Put _ _) (sym (ap₂ _&&_ (c .before .before .before .before .before .before .before .before .before .before .governs .ensures) (c .before .before .before .before .before .before .before .before .before .governs2 .ensures)) ∙ not-false _ (c .before .before .before .before .before .before .before .before .if1 .left))
     (sym (c .before .before .put-gains .ensures) ∙ c .before .if2 .taken)
 
@@ -66,13 +66,13 @@ row-requires c κs = search needs
 handed-requires : tie.Need-handed-requires
 handed-requires c κs = search needs
 
-refuse-requires-3 : tie.Need-refuse-requires-3
-refuse-requires-3 c κs = search needs
+answer-requires-3 : tie.Need-answer-requires-3
+answer-requires-3 c κs = search needs
 
 returns-3 : tie.Need-returns-3
 unfolding may
 returns-3 c =
-    c .refuse3 .ensures
+    c .answer3 .ensures
     ∙ finished-11 _ _ (Put _ _) (sym (ap₂ _&&_ (c .before .before .before .before .before .before .before .before .before .before .before .before .before .governs .ensures) (c .before .before .before .before .before .before .before .before .before .before .before .before .governs2 .ensures)) ∙ not-false _ (c .before .before .before .before .before .before .before .before .before .before .before .if1 .left))
     (sym (c .before .before .before .before .before .put-gains .ensures) ∙ c .before .before .before .before .if2 .left)
     (sym
@@ -85,14 +85,14 @@ returns-3 c =
 put-requires : tie.Need-put-requires
 put-requires c κs = search needs
 
-refuse-requires-4 : tie.Need-refuse-requires-4
-refuse-requires-4 c κs = search needs
+answer-requires-4 : tie.Need-answer-requires-4
+answer-requires-4 c κs = search needs
 
 returns-4 : tie.Need-returns-4
 unfolding may after done orphan
 returns-4 c =
-    c .refuse4 .ensures
-    ∙ ap (λ (n : Policy). refused n Done) (c .before .put .ensures)
+    c .answer4 .ensures
+    ∙ ap (λ (n : Policy). answered n Done) (c .before .put .ensures)
     ∙ finished-0 _ _ (Put _ _) (sym (ap₂ _&&_ (c .before .before .before .before .before .before .before .before .before .before .before .before .before .before .governs .ensures) (c .before .before .before .before .before .before .before .before .before .before .before .before .before .governs2 .ensures)) ∙ not-false _ (c .before .before .before .before .before .before .before .before .before .before .before .before .if1 .left))
     (sym (c .before .before .before .before .before .before .put-gains .ensures) ∙ c .before .before .before .before .before .if2 .left)
     (sym
@@ -108,18 +108,18 @@ put-spec =
     (tie.spec
     governs-requires
     governs-requires-2
-    refuse-requires
+    answer-requires
     returns
     survey-requires
     held-requires
     held-requires-2
     put-gains-requires
-    refuse-requires-2
+    answer-requires-2
     returns-2
     row-requires
     handed-requires
-    refuse-requires-3
+    answer-requires-3
     returns-3
     put-requires
-    refuse-requires-4
+    answer-requires-4
     returns-4)

@@ -9,7 +9,7 @@ use Rattle.rules.specs.Judging.{done}
 use Rattle.reach.specs.declared.Policy.{Policy}
 use Rattle.rules.specs.declared.Verdict.the-variants.{Done}
 use Rattle.rules.specs.declared.Request.the-variants.{Take}
-use Rattle.judge.specs.Stages.{refused}
+use Rattle.judge.specs.Stages.{answered}
 use mathlib.Core.Bool.{_&&_}
 use mathlib.Core.Path.{ap₂}
 use Rattle.reach.specs.Privileges.{orphaned}
@@ -27,37 +27,37 @@ governs-requires c κs = search needs
 governs-requires-2 : tie.Need-governs-requires-2
 governs-requires-2 c κs = search needs
 
-refuse-requires : tie.Need-refuse-requires
-refuse-requires c κs = search needs
+answer-requires : tie.Need-answer-requires
+answer-requires c κs = search needs
 
 returns : tie.Need-returns
 unfolding may after done ownGain handOver orphan
 returns c =
     let a = c .before .before .before .before .before .args in
-    c .refuse .ensures
+    c .answer .ensures
     ∙ finished-9 (a .p) (a .u) (Take (a .object) (a .group)) (sym (ap₂ _&&_ (c .before .before .before .governs .ensures) (c .before .before .governs2 .ensures)) ∙ not-true _ (c .before .if1 .taken))
 
 orphaned-requires : tie.Need-orphaned-requires
 orphaned-requires c κs = search needs
 
-refuse-requires-2 : tie.Need-refuse-requires-2
-refuse-requires-2 c κs = search needs
+answer-requires-2 : tie.Need-answer-requires-2
+answer-requires-2 c κs = search needs
 
 returns-2 : tie.Need-returns-2
 unfolding may after done ownGain handOver orphan
 returns-2 c =
-    c .refuse2 .ensures
+    c .answer2 .ensures
     ∙ finished-12 _ _ (Take _ _) (sym (ap₂ _&&_ (c .before .before .before .before .before .governs .ensures) (c .before .before .before .before .governs2 .ensures)) ∙ not-false _ (c .before .before .before .if1 .left)) refl refl
     (ap orphaned (sym (c .before .before .before .before .before .before .taken .ensures)) ∙ sym (c .before .before .orphaned .ensures) ∙ c .before .if2 .taken)
 
-refuse-requires-3 : tie.Need-refuse-requires-3
-refuse-requires-3 c κs = search needs
+answer-requires-3 : tie.Need-answer-requires-3
+answer-requires-3 c κs = search needs
 
 returns-3 : tie.Need-returns-3
 unfolding may after done ownGain handOver orphan
 returns-3 c =
-    c .refuse3 .ensures
-    ∙ ap (λ (n : Policy). refused n Done) (c .before .before .before .before .before .before .taken .ensures)
+    c .answer3 .ensures
+    ∙ ap (λ (n : Policy). answered n Done) (c .before .before .before .before .before .before .taken .ensures)
     ∙ finished-0 _ _ (Take _ _) (sym (ap₂ _&&_ (c .before .before .before .before .before .governs .ensures) (c .before .before .before .before .governs2 .ensures)) ∙ not-false _ (c .before .before .before .if1 .left)) refl refl
     (ap orphaned (sym (c .before .before .before .before .before .before .taken .ensures)) ∙ sym (c .before .before .orphaned .ensures) ∙ c .before .if2 .left)
 
@@ -68,10 +68,10 @@ take-spec =
     taken-requires
     governs-requires
     governs-requires-2
-    refuse-requires
+    answer-requires
     returns
     orphaned-requires
-    refuse-requires-2
+    answer-requires-2
     returns-2
-    refuse-requires-3
+    answer-requires-3
     returns-3)

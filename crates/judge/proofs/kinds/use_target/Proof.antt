@@ -2,7 +2,7 @@
 use Rattle.reach.specs.declared.Place.{Place}
 use Rattle.reach.proofs.Deciding.{permitted-at, permitted-nothing}
 use Rattle.rules.specs.Judging.{doneBy}
-use Rattle.judge.specs.Stages.{refused}
+use Rattle.judge.specs.Stages.{answered}
 use Rattle.rules.specs.declared.Verdict.{Verdict}
 use mathlib.Core.Path.{_≡_, refl, sym, ap, _∙_}
 use borrow.Author.Tests.{not-true, not-false}
@@ -24,29 +24,29 @@ permitting-requires c κs = search needs
 enum-known-i : tie.Need-enum-known-i
 enum-known-i c = search needs
 
-refuse-requires : tie.Need-refuse-requires
-refuse-requires c κs = search needs
+answer-requires : tie.Need-answer-requires
+answer-requires c κs = search needs
 
 enum-told : tie.Need-enum-told
 enum-told c = search needs
 
-refuse-requires-2 : tie.Need-refuse-requires-2
-refuse-requires-2 c κs = search needs
+answer-requires-2 : tie.Need-answer-requires-2
+answer-requires-2 c κs = search needs
 
 returns : tie.Need-returns
 unfolding may after done ownGain handOver orphan
 returns c =
     let a = c .before .before .before .before .before .args in
     let e = sym (c .before .before .before .before .permitting .ensures) ∙ c .before .before .i .given .1 in
-    c .refuse .ensures
-    ∙ ap (λ (w : Place). refused (a .p) (doneBy w)) (sym e)
+    c .answer .ensures
+    ∙ ap (λ (w : Place). answered (a .p) (doneBy w)) (sym e)
     ∙ finished-0 (a .p) (a .u) (Use (a .target) (a .operation)) (permitted-at _ _ _ _ _ e) refl refl refl
 
 returns-2 : tie.Need-returns-2
 unfolding may after done ownGain handOver orphan
 returns-2 c =
     let a = c .before .before .before .before .args in
-    c .refuse2 .ensures
+    c .answer2 .ensures
     ∙ finished-9 (a .p) (a .u) (Use (a .target) (a .operation)) (permitted-nothing _ _ _ _ (sym (c .before .before .before .permitting .ensures) ∙ c .before .enum-told .given .1))
 
 pub use-target-spec : {M : Type 1} → statement M
@@ -55,8 +55,8 @@ use-target-spec =
     (tie.spec
     permitting-requires
     enum-known-i
-    refuse-requires
+    answer-requires
     enum-told
-    refuse-requires-2
+    answer-requires-2
     returns
     returns-2)

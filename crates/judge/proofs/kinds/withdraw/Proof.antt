@@ -9,7 +9,7 @@ use Rattle.rules.specs.Judging.{done}
 use Rattle.reach.specs.declared.Policy.{Policy}
 use Rattle.rules.specs.declared.Verdict.the-variants.{Done}
 use Rattle.rules.specs.declared.Request.the-variants.{Withdraw}
-use Rattle.judge.specs.Stages.{refused}
+use Rattle.judge.specs.Stages.{answered}
 use Rattle.reach.specs.declared.AccessRule.{AccessRule}
 use Rattle.reach.specs.Privileges.{administers}
 use Rattle.judge.proofs.Finishing.{finished-9, finished-0}
@@ -23,24 +23,24 @@ rule-requires c κs = search needs
 administers-requires : tie.Need-administers-requires
 administers-requires c κs = search needs
 
-refuse-requires : tie.Need-refuse-requires
-refuse-requires c κs = search needs
+answer-requires : tie.Need-answer-requires
+answer-requires c κs = search needs
 
 returns : tie.Need-returns
 unfolding may after done ownGain handOver orphan
-returns c = c .refuse .ensures ∙ finished-9 _ _ (Withdraw (c .before .before .before .before .args .place)) (ap (λ (r : AccessRule). administers (c .before .before .before .before .args .p) (c .before .before .before .before .args .u) (r .users) (r .targets)) (sym (c .before .before .before .rule .ensures)) ∙ sym (c .before .before .administers .ensures) ∙ not-true _ (c .before .if1 .taken))
+returns c = c .answer .ensures ∙ finished-9 _ _ (Withdraw (c .before .before .before .before .args .place)) (ap (λ (r : AccessRule). administers (c .before .before .before .before .args .p) (c .before .before .before .before .args .u) (r .users) (r .targets)) (sym (c .before .before .before .rule .ensures)) ∙ sym (c .before .before .administers .ensures) ∙ not-true _ (c .before .if1 .taken))
 
 withdrawn-requires : tie.Need-withdrawn-requires
 withdrawn-requires c κs = search needs
 
-refuse-requires-2 : tie.Need-refuse-requires-2
-refuse-requires-2 c κs = search needs
+answer-requires-2 : tie.Need-answer-requires-2
+answer-requires-2 c κs = search needs
 
 returns-2 : tie.Need-returns-2
 unfolding may after done ownGain handOver orphan
 returns-2 c =
-    c .refuse2 .ensures
-    ∙ ap (λ (n : Policy). refused n Done) (c .before .withdrawn .ensures)
+    c .answer2 .ensures
+    ∙ ap (λ (n : Policy). answered n Done) (c .before .withdrawn .ensures)
     ∙ finished-0 _ _ (Withdraw (c .before .before .before .before .before .args .place)) (ap (λ (r : AccessRule). administers (c .before .before .before .before .before .args .p) (c .before .before .before .before .before .args .u) (r .users) (r .targets)) (sym (c .before .before .before .before .rule .ensures)) ∙ sym (c .before .before .before .administers .ensures) ∙ not-false _ (c .before .before .if1 .left)) refl refl refl
 
 pub withdraw-spec : {M : Type 1} → statement M
@@ -49,8 +49,8 @@ withdraw-spec =
     (tie.spec
     rule-requires
     administers-requires
-    refuse-requires
+    answer-requires
     returns
     withdrawn-requires
-    refuse-requires-2
+    answer-requires-2
     returns-2)

@@ -6,8 +6,8 @@ use Rattle.judge.specs.Rows.{In}
 use Rattle.reach.specs.Words.{has, SetOf}
 use Rattle.reach.specs.Tests.{Decides}
 use borrow.Author.Tests.{eqb-true, eq-eqb}
-use Rattle.reach.proofs.WordSets.{set-as, set-one, gathered-none, gathered-next}
-use Rattle.reach.proofs.Testing.{decides-at, decides-eqb}
+use Rattle.reach.proofs.WordSets.{has-decides, set-as, set-one, gathered-none, gathered-next}
+use Rattle.reach.proofs.Testing.{decides-at}
 use borrow.Author.Needs.{needs}
 use Rattle.judge.proofs.rows.above.Statement.{statement}
 use Rattle.judge.proofs.rows.above.Tie as tie
@@ -49,7 +49,6 @@ loop-less : tie.Need-loop-less Inv-loop μ-loop
 loop-less c = search needs
 
 loop-again : tie.Need-loop-again Inv-loop μ-loop
-unfolding has
 loop-again c = (
   search needs,
   gathered-next
@@ -59,7 +58,7 @@ loop-again c = (
       (c .only-if .ensures)
       (λ x w. (set-one _ (search needs) .only x (w .1), w .0))
       (λ x w. (w .1, set-one _ (search needs) .all x (w .0))))
-      (decides-at (c .before .has .ensures) (decides-eqb _ 1)),
+      (decides-at (c .before .has .ensures) (has-decides _ _)),
 )
 
 returns : tie.Need-returns Inv-loop μ-loop

@@ -2,15 +2,15 @@
 use Prim.Native.Nat.{ℕ}
 use mathlib.Core.Path.{_≡_, refl, sym, ap, _∙_}
 use mathlib.Core.Bool.{true≢false}
-use borrow.Author.Tests.{eqb-true, not-true, not-false}
+use borrow.Author.Tests.{not-true, not-false}
 use lib.ListN.{length, getD}
 use mir.Syntax.{w64}
 use mir.Val.{Fits}
 use Rattle.judge.specs.Rows.{In}
-use Rattle.reach.specs.Words.{bit, has}
+use Rattle.reach.specs.Words.{bit}
 use Rattle.judge.proofs.Spreading.{joined-none, joined-as}
-use Rattle.reach.proofs.Testing.{decides-eqb, refuted}
-use Rattle.reach.proofs.WordSets.{set-bits, set-mask}
+use Rattle.reach.proofs.Testing.{refuted}
+use Rattle.reach.proofs.WordSets.{has-decides, set-bits, set-mask}
 use borrow.Author.Needs.{needs}
 use Rattle.judge.proofs.rows.permitted_by.Statement.{statement}
 use Rattle.judge.proofs.rows.permitted_by.Tie as tie
@@ -32,7 +32,6 @@ has-requires : tie.Need-has-requires
 has-requires c κs = search needs
 
 returns-2 : tie.Need-returns-2
-unfolding has
 returns-2 c =
     let a = c .before .before .before .before .before .args in
     let long : length (a .sets) ≡ 8 = search needs in
@@ -42,7 +41,7 @@ returns-2 c =
     (λ j. let fits : Fits w64 (getD (a .sets) j 0) = search needs in fits .fits)
     (λ i x q.
     refuted
-    (decides-eqb _ 1)
+    (has-decides _ _)
     (sym (c .before .has .ensures) ∙ not-true _ (c .if2 .taken))
     (ap (λ (r : ℕ). bit r (a .u)) (c .before .before .row .ensures) ∙ q .1 .0))
 
@@ -56,10 +55,9 @@ spread-eight-requires : tie.Need-spread-eight-requires
 spread-eight-requires c κs = search needs
 
 returns-3 : tie.Need-returns-3
-unfolding has
 returns-3 c =
     let a = c .before .before .before .before .before .before .before .before .args in
-    let user = ap (λ (r : ℕ). bit r (a .u)) (sym (c .before .before .before .before .before .row .ensures)) ∙ eqb-true _ 1 (sym (c .before .before .before .before .has .ensures) ∙ not-false _ (c .before .before .before .if2 .left)) in
+    let user = ap (λ (r : ℕ). bit r (a .u)) (sym (c .before .before .before .before .before .row .ensures)) ∙ has-decides _ _ .sound (sym (c .before .before .before .before .has .ensures) ∙ not-false _ (c .before .before .before .if2 .left)) in
     let w : Fits w64 (getD (a .rows) (a .rule .targets) 0) = search needs in
     let both = set-mask (c .before .row2 .result) (set-bits _ (c .before .before .before .before .before .before .before .before .fits .all .fits)) in
     joined-as
