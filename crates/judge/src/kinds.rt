@@ -83,14 +83,14 @@ fn put(p: Policy, u: u8, object: u8, group: u8) -> Answer
 fn take(p: Policy, u: u8, object: u8, group: u8) -> Answer
     ensures { λ r. ⌜ r ≡ finished p u (Take object group) ⌝ }
 {
-    let n = p.taken(object, group);
+    let taken = p.taken(object, group);
     if !(governs(p, u, object) & governs(p, u, group)) {
         return answer(p, Verdict::NoAuthority);
     }
-    if n.orphaned() {
+    if taken.orphaned() {
         return answer(p, Verdict::Orphan);
     }
-    answer(n, Verdict::Done)
+    answer(taken, Verdict::Done)
 }
 
 // APPOINT.
@@ -111,14 +111,14 @@ fn appoint(p: Policy, u: u8, place: u8, w: Appointment) -> Answer
 fn dismiss(p: Policy, u: u8, place: u8) -> Answer
     ensures { λ r. ⌜ r ≡ finished p u (Dismiss place) ⌝ }
 {
+    let dismissed = p.dismissed(place);
     if !may_appoint(p, u, p.appointment(place)) {
         return answer(p, Verdict::NoAuthority);
     }
-    let n = p.dismissed(place);
-    if n.orphaned() {
+    if dismissed.orphaned() {
         return answer(p, Verdict::Orphan);
     }
-    answer(n, Verdict::Done)
+    answer(dismissed, Verdict::Done)
 }
 
 // GRANT.

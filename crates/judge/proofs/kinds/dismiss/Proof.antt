@@ -17,6 +17,9 @@ use borrow.Author.Needs.{needs}
 use Rattle.judge.proofs.kinds.dismiss.Statement.{statement}
 use Rattle.judge.proofs.kinds.dismiss.Tie as tie
 
+dismissed-requires : tie.Need-dismissed-requires
+dismissed-requires c κs = search needs
+
 appointment-requires : tie.Need-appointment-requires
 appointment-requires c κs = search needs
 
@@ -28,10 +31,10 @@ answer-requires c κs = search needs
 
 returns : tie.Need-returns
 unfolding may after done ownGain handOver orphan
-returns c = c .answer .ensures ∙ finished-9 _ _ (Dismiss _) (ap (mayAppoint _ _) (sym (c .before .before .before .appointment .ensures)) ∙ sym (c .before .before .may-appoint .ensures) ∙ not-true _ (c .before .if1 .taken))
-
-dismissed-requires : tie.Need-dismissed-requires
-dismissed-requires c κs = search needs
+returns c =
+    let a = c .before .before .before .before .before .args in
+    c .answer .ensures
+    ∙ finished-9 (a .p) (a .u) (Dismiss (a .place)) (ap (mayAppoint (a .p) (a .u)) (sym (c .before .before .before .appointment .ensures)) ∙ sym (c .before .before .may-appoint .ensures) ∙ not-true _ (c .before .if1 .taken))
 
 orphaned-requires : tie.Need-orphaned-requires
 orphaned-requires c κs = search needs
@@ -43,8 +46,8 @@ returns-2 : tie.Need-returns-2
 unfolding may after done ownGain handOver orphan
 returns-2 c =
     c .answer2 .ensures
-    ∙ finished-12 _ _ (Dismiss _) (ap (mayAppoint _ _) (sym (c .before .before .before .before .before .before .appointment .ensures)) ∙ sym (c .before .before .before .before .before .may-appoint .ensures) ∙ not-false _ (c .before .before .before .before .if1 .left)) refl refl
-    (ap orphaned (sym (c .before .before .before .dismissed .ensures)) ∙ sym (c .before .before .orphaned .ensures) ∙ c .before .if2 .taken)
+    ∙ finished-12 _ _ (Dismiss _) (ap (mayAppoint _ _) (sym (c .before .before .before .before .before .appointment .ensures)) ∙ sym (c .before .before .before .before .may-appoint .ensures) ∙ not-false _ (c .before .before .before .if1 .left)) refl refl
+    (ap orphaned (sym (c .before .before .before .before .before .before .dismissed .ensures)) ∙ sym (c .before .before .orphaned .ensures) ∙ c .before .if2 .taken)
 
 answer-requires-3 : tie.Need-answer-requires-3
 answer-requires-3 c κs = search needs
@@ -53,19 +56,19 @@ returns-3 : tie.Need-returns-3
 unfolding may after done ownGain handOver orphan
 returns-3 c =
     c .answer3 .ensures
-    ∙ ap (λ (n : Policy). answered n Done) (c .before .before .before .dismissed .ensures)
-    ∙ finished-0 _ _ (Dismiss _) (ap (mayAppoint _ _) (sym (c .before .before .before .before .before .before .appointment .ensures)) ∙ sym (c .before .before .before .before .before .may-appoint .ensures) ∙ not-false _ (c .before .before .before .before .if1 .left)) refl refl
-    (ap orphaned (sym (c .before .before .before .dismissed .ensures)) ∙ sym (c .before .before .orphaned .ensures) ∙ c .before .if2 .left)
+    ∙ ap (λ (n : Policy). answered n Done) (c .before .before .before .before .before .before .dismissed .ensures)
+    ∙ finished-0 _ _ (Dismiss _) (ap (mayAppoint _ _) (sym (c .before .before .before .before .before .appointment .ensures)) ∙ sym (c .before .before .before .before .may-appoint .ensures) ∙ not-false _ (c .before .before .before .if1 .left)) refl refl
+    (ap orphaned (sym (c .before .before .before .before .before .before .dismissed .ensures)) ∙ sym (c .before .before .orphaned .ensures) ∙ c .before .if2 .left)
 
 pub dismiss-spec : {M : Type 1} → statement M
 dismiss-spec =
     tie.close
     (tie.spec
+    dismissed-requires
     appointment-requires
     may-appoint-requires
     answer-requires
     returns
-    dismissed-requires
     orphaned-requires
     answer-requires-2
     returns-2
