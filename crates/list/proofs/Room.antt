@@ -108,3 +108,7 @@ output-fits input = go (ltb 65536 (length input)) refl
 pub printed-whole : (input buffer : Bytes) {buffer′ : Bytes} {n : ℕ} → length buffer ≡ 212992 → Printed buffer (output input) buffer′ n
     → take n buffer′ ≡ output input
 printed-whole input buffer e p = printed-all p (omega (arith, output-fits input))
+
+pub printed-count : (input buffer : Bytes) {buffer′ : Bytes} {n : ℕ} → length buffer ≡ 212992 → Printed buffer (output input) buffer′ n
+    → n ≡ length (output input)
+printed-count input buffer e p = omega (arith, p .count, output-fits input)

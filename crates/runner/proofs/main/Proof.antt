@@ -1,8 +1,10 @@
--- `main` stays within its buffers: what it read, and the text that it was given, are counted in the buffers that it lent.
-use mathlib.Core.Path.{sym}
+-- `main` stays within its buffers: what it read is counted in the one that it lent, and the text that it writes is all in the other.
+use mathlib.Core.Path.{_≡_, sym, ap, _∙_}
+use Prim.Native.Nat.{ℕ, _≤_, min}
 use native.Mathlib.Omega.{arith}
-use lib.Seq.{length-take-le}
-use Rattle.list.proofs.Writing.{printed-length, printed-within}
+use lib.ListN.{length, take, length-take}
+use Rattle.list.specs.Runs.{Bytes}
+use Rattle.list.specs.Report.{output}
 use borrow.Author.Needs.{needs}
 use Rattle.runner.proofs.main.Statement.{statement}
 use Rattle.runner.proofs.main.Tie as tie
@@ -10,7 +12,15 @@ use Rattle.runner.proofs.main.Reads as reads
 use Rattle.runner.proofs.main.Lts as lts
 use Rattle.io.proofs.read_full.Reads as read-full-reads
 use Rattle.io.proofs.write_all.Reads as write-all-reads
-use Rattle.list.proofs.output.Reads as output-reads
+use Rattle.runner.proofs.answer.Reads as answer-reads
+
+within : (input text : Bytes) (n : ℕ) → n ≡ length (output input) → take n text ≡ output input → n ≤ length text
+within input text n e same =
+    let long : min n (length text) ≡ length (output input) = simp length-take at (ap length same) in
+    omega arith
+
+length-of : (input text : Bytes) (n : ℕ) → n ≡ length (output input) → take n text ≡ output input → n ≡ length (take n text)
+length-of input text n e same = e ∙ sym (ap length same)
 
 slice-aggregate-read-full : tie.Need-slice-aggregate-read-full
 slice-aggregate-read-full c = search needs
@@ -21,20 +31,17 @@ read-full-requires c κs = search needs
 array-share-prefix-input : tie.Need-array-share-prefix-input
 array-share-prefix-input c = search needs
 
-slice-aggregate-output : tie.Need-slice-aggregate-output
-slice-aggregate-output c = search needs
+slice-aggregate-answer : tie.Need-slice-aggregate-answer
+slice-aggregate-answer c = search needs
 
-slice-aggregate-output-2 : tie.Need-slice-aggregate-output-2
-slice-aggregate-output-2 c = search needs
-
-output-requires : tie.Need-output-requires
-output-requires c κs = search needs
+answer-requires : tie.Need-answer-requires
+answer-requires c κs = search needs
 
 array-share-prefix-text : tie.Need-array-share-prefix-text
-array-share-prefix-text c = search (needs, printed-within (c .before .output .ensures), printed-length (c .before .output .ensures))
+array-share-prefix-text c = within _ _ _ (c .answer .ensures .0) (c .answer .ensures .1)
 
 slice-aggregate-write-all : tie.Need-slice-aggregate-write-all
-slice-aggregate-write-all c = sym (length-take-le _ _ (printed-within (c .before .before .output .ensures)))
+slice-aggregate-write-all c = length-of _ _ _ (c .before .answer .ensures .0) (c .before .answer .ensures .1)
 
 write-all-requires : tie.Need-write-all-requires
 write-all-requires c κs = search needs
@@ -49,9 +56,8 @@ main-spec =
     slice-aggregate-read-full
     read-full-requires
     array-share-prefix-input
-    slice-aggregate-output
-    slice-aggregate-output-2
-    output-requires
+    slice-aggregate-answer
+    answer-requires
     array-share-prefix-text
     slice-aggregate-write-all
     write-all-requires
