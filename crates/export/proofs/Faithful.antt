@@ -10,18 +10,18 @@ use lib.Dec.{eqb, lit<}
 use lib.ListN.{length, take, getD, List·getD-append}
 use lib.Seq.{take-suc, take-all, getD-append-add}
 use Rattle.reach.specs.declared.Policy.{Policy}
-use Rattle.reach.specs.declared.Appointment.{Appointment}
-use Rattle.reach.specs.declared.AccessRule.{AccessRule}
 use Rattle.reach.specs.Tables.{Sized, noAppointment, noRule}
 use Rattle.frame.specs.Fields.{byte}
-use Rattle.export.specs.Picture.{Bytes, table, numberFrom, appointmentFrom, ruleFrom, sortAt, rowAt, appointmentAt, ruleAt, policyOf, flat, bytesOf, rowBytes, appointmentBytes, mark, ruleBytes, pictureOf}
+use Rattle.export.specs.Picture.{Bytes, table, numberFrom, sortAt, rowAt, appointmentAt, ruleAt, policyOf}
+use Rattle.export.specs.Picture.{flat, bytesOf, rowBytes, appointmentBytes, mark, ruleBytes, pictureOf}
 use Rattle.export.proofs.Storing.{bytes-length}
-use Rattle.export.proofs.Picturing.{to-rows, to-appointments}
+use Rattle.export.proofs.Picturing.{rows, appointments, rules, to-rows, to-appointments}
 
 -- ---- Tables
 
 -- A table is the list that has its places.
-module _ {A : Type 0} (n : ℕ) (f : ℕ → A) (xs : List A) (d : A) (long : length xs ≡ n) (each : (i : ℕ) → i < n → f i ≡ getD xs i d) where
+module _
+    {A : Type 0} (n : ℕ) (f : ℕ → A) (xs : List A) (d : A) (long : length xs ≡ n) (each : (i : ℕ) → i < n → f i ≡ getD xs i d) where
   table-prefix : (i : ℕ) → i ≤ n → table i f ≡ take i xs
   unfolding table
   table-prefix zero h = refl
@@ -34,7 +34,8 @@ module _ {A : Type 0} (n : ℕ) (f : ℕ → A) (xs : List A) (d : A) (long : le
 
 -- Byte j of place i of a table, w bytes to a place.
 module _ {A : Type 0} (f : A → Bytes) (w : ℕ) (each : (x : A) → length (f x) ≡ w) (rest : Bytes) (d : A) where
-  flat-byte : (xs : List A) (i j : ℕ) → i < length xs → j < w → byte (flat f xs ++ rest) (w * i + j) ≡ byte (f (getD xs i d)) j
+  flat-byte : (xs : List A) (i j : ℕ) → i < length xs → j < w
+      → byte (flat f xs ++ rest) (w * i + j) ≡ byte (f (getD xs i d)) j
   unfolding flat
   flat-byte [] i j h k = absurd (not-suc-le-zero h)
   flat-byte (x ∷ xs) zero j h k =
@@ -54,7 +55,8 @@ module _ {A : Type 0} (f : A → Bytes) (w : ℕ) (each : (x : A) → length (f 
 -- ---- Numbers
 
 -- A number goes by its bytes.
-number-same : (k : ℕ) (b c : Bytes) (m n : ℕ) → ((j : ℕ) → j < k → byte b (m + j) ≡ byte c (n + j)) → numberFrom k b m ≡ numberFrom k c n
+number-same : (k : ℕ) (b c : Bytes) (m n : ℕ) → ((j : ℕ) → j < k → byte b (m + j) ≡ byte c (n + j))
+    → numberFrom k b m ≡ numberFrom k c n
 unfolding numberFrom
 number-same zero b c m n e = refl
 number-same (suc k) b c m n e =
@@ -79,26 +81,22 @@ mark-read true = refl
 mark-read false = refl
 
 module _ (p : Policy) (z : Sized p) where
-  abbrev rows : Bytes
-  rows = flat rowBytes (p .members)
-
-  abbrev appointments : Bytes
-  appointments = flat appointmentBytes (p .appointments)
-
-  abbrev rules : Bytes
-  rules = flat ruleBytes (p .rules)
+  -- The sorts, and what stands behind them.
+  split : pictureOf p ≡ p .sorts ++ (rows p ++ (appointments p ++ rules p))
+  unfolding pictureOf
+  split = simp append-assoc
 
   sorts-read : table 64 (sortAt (pictureOf p)) ≡ p .sorts
-  unfolding pictureOf
   sorts-read =
       table-of 64 (sortAt (pictureOf p)) (p .sorts) 0 (z .sorts)
-      (λ i h. rw (append-assoc, append-assoc) (List·getD-append (p .sorts) (rows ++ (appointments ++ rules)) 0 i (omega (arith, z .sorts))))
+      (λ i h.
+      ap (λ (l : Bytes). byte l i) split
+      ∙ List·getD-append (p .sorts) (rows p ++ (appointments p ++ rules p)) 0 i (omega (arith, z .sorts)))
 
   row-byte : (g j : ℕ) → g < 64 → j < 8 → byte (pictureOf p) (64 + 8 * g + j) ≡ byte (rowBytes (getD (p .members) g 0)) j
-  unfolding pictureOf
   row-byte g j h k =
-      table-byte rowBytes 8 (bytes-length 8) (appointments ++ rules) 0 (pictureOf p) (p .sorts) (p .members) 64 g j
-      (rw (append-assoc, append-assoc)) (z .sorts) (omega (arith, z .members)) k
+      table-byte rowBytes 8 (bytes-length 8) (appointments p ++ rules p) 0 (pictureOf p) (p .sorts) (p .members) 64 g j
+      split (z .sorts) (omega (arith, z .members)) k
 
   rows-read : ((g : ℕ) → getD (p .members) g 0 < 2 ^ 64) → table 64 (rowAt (pictureOf p)) ≡ p .members
   rows-read words =
@@ -112,8 +110,8 @@ module _ (p : Policy) (z : Sized p) where
       → byte (pictureOf p) (576 + 4 * i + j) ≡ byte (appointmentBytes (getD (p .appointments) i noAppointment)) j
   unfolding pictureOf
   appointment-byte i j h k =
-      table-byte appointmentBytes 4 (λ _. refl) rules noAppointment (pictureOf p) (p .sorts ++ rows) (p .appointments) 576 i j
-      (append-assoc (p .sorts ++ rows) appointments rules) (to-rows p z) (omega (arith, z .appointments)) k
+      table-byte appointmentBytes 4 (λ _. refl) (rules p) noAppointment (pictureOf p) (p .sorts ++ rows p) (p .appointments) 576 i j
+      (append-assoc (p .sorts ++ rows p) (appointments p) (rules p)) (to-rows p z) (omega (arith, z .appointments)) k
 
   appointments-read : table 32 (appointmentAt (pictureOf p)) ≡ p .appointments
   appointments-read =
@@ -127,8 +125,9 @@ module _ (p : Policy) (z : Sized p) where
   rule-byte : (i j : ℕ) → i < 64 → j < 4 → byte (pictureOf p) (704 + 4 * i + j) ≡ byte (ruleBytes (getD (p .rules) i noRule)) j
   unfolding pictureOf
   rule-byte i j h k =
-      table-byte ruleBytes 4 (λ _. refl) [] noRule (pictureOf p) (p .sorts ++ rows ++ appointments) (p .rules) 704 i j
-      (ap (λ (l : Bytes). p .sorts ++ rows ++ appointments ++ l) (sym (append-nil rules))) (to-appointments p z) (omega (arith, z .rules)) k
+      let front = p .sorts ++ rows p ++ appointments p in
+      table-byte ruleBytes 4 (λ _. refl) [] noRule (pictureOf p) front (p .rules) 704 i j
+      (ap (λ (l : Bytes). front ++ l) (sym (append-nil (rules p)))) (to-appointments p z) (omega (arith, z .rules)) k
 
   rules-read : table 64 (ruleAt (pictureOf p)) ≡ p .rules
   rules-read =
@@ -136,7 +135,8 @@ module _ (p : Policy) (z : Sized p) where
       (λ i h.
       let first : 704 + 4 * i ≡ 704 + 4 * i + 0 = omega arith in
       let used : eqb (byte (pictureOf p) (704 + 4 * i)) 1 ≡ getD (p .rules) i noRule .used =
-      ap (λ (n : ℕ). eqb n 1) (ap (byte (pictureOf p)) first ∙ rule-byte i 0 h (lit< tt)) ∙ mark-read (getD (p .rules) i noRule .used) in
+      ap (λ (n : ℕ). eqb n 1) (ap (byte (pictureOf p)) first ∙ rule-byte i 0 h (lit< tt))
+      ∙ mark-read (getD (p .rules) i noRule .used) in
       rw (used, rule-byte i 1 h (lit< tt), rule-byte i 2 h (lit< tt), rule-byte i 3 h (lit< tt)))
 
   -- The picture of a policy gives the policy back.

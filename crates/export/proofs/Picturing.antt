@@ -1,21 +1,18 @@
 -- The picture as a whole: its length, its four tables stored at their places, and the answer behind it.
 use mathlib.Core.Path.{_≡_, refl, sym, ap, _∙_}
-use mathlib.Core.Bool.{Bool, true, false, _&&_}
-use mathlib.Core.List.{List, [], _∷_, _++_}
-use Prim.Native.Nat.{ℕ, _+_, _*_, _≤_, _<_}
+use mathlib.Core.Bool.{true, false}
+use mathlib.Core.List.{[], _∷_, _++_}
+use Prim.Native.Nat.{ℕ, _*_, _≤_, _<_}
 use native.Mathlib.Nat.{zero-add}
-use native.Mathlib.Omega.{arith}
-use lib.Dec.{eqb, leb}
 use lib.ListN.{length, drop, set, length-append}
 use lib.Seq.{sets}
 use borrow.Author.Tests.{eq-eqb, ne-eqb, le-leb, lt-leb}
 use Rattle.reach.specs.declared.Policy.{Policy}
 use Rattle.reach.specs.Tables.{Sized}
-use Rattle.reach.specs.Tests.{_⇒_∥_}
 use Rattle.rules.specs.declared.Answer.{Answer}
 use Rattle.rules.specs.Judging.{codeOf, citedOf, judge}
 use Rattle.rules.proofs.TwoWordings.{judge-sized}
-use Rattle.export.specs.Picture.{Bytes, flat, rowBytes, appointmentBytes, ruleBytes, policyOf, pictureOf, answerBytes, fitting, Judged}
+use Rattle.export.specs.Picture.{Bytes, policyOf, flat, rowBytes, appointmentBytes, ruleBytes, pictureOf, answerBytes, fitting, Judged}
 use Rattle.export.proofs.Tabling.{table-length}
 use Rattle.export.proofs.Storing.{sets-append, sets-front, bytes-length, flat-length}
 
@@ -31,54 +28,62 @@ store-next l a b e = rw (← e) (sym (sets-append l 0 a b ∙ rw zero-add))
 
 -- ---- The tables in their places
 
+-- The bytes of the tables behind the sorts.
+abbrev pub rows : Policy → Bytes
+rows p = flat rowBytes (p .members)
+
+abbrev pub appointments : Policy → Bytes
+appointments p = flat appointmentBytes (p .appointments)
+
+abbrev pub rules : Policy → Bytes
+rules p = flat ruleBytes (p .rules)
+
 module _ (p : Policy) (z : Sized p) where
-  pub rows-length : length (flat rowBytes (p .members)) ≡ 512
+  pub rows-length : length (rows p) ≡ 512
   rows-length = flat-length rowBytes 8 (bytes-length 8) (p .members) ∙ ap (λ (n : ℕ). 8 * n) (z .members)
 
-  pub appointments-length : length (flat appointmentBytes (p .appointments)) ≡ 128
+  pub appointments-length : length (appointments p) ≡ 128
   appointments-length = flat-length appointmentBytes 4 (λ _. refl) (p .appointments) ∙ ap (λ (n : ℕ). 4 * n) (z .appointments)
 
-  rules-length : length (flat ruleBytes (p .rules)) ≡ 256
+  rules-length : length (rules p) ≡ 256
   rules-length = flat-length ruleBytes 4 (λ _. refl) (p .rules) ∙ ap (λ (n : ℕ). 4 * n) (z .rules)
 
   -- The appointments begin at 576, and the rules at 704.
-  pub to-rows : length (p .sorts ++ flat rowBytes (p .members)) ≡ 576
-  to-rows = length-append (p .sorts) (flat rowBytes (p .members)) ∙ rw (z .sorts, rows-length)
+  pub to-rows : length (p .sorts ++ rows p) ≡ 576
+  to-rows = length-append (p .sorts) (rows p) ∙ rw (z .sorts, rows-length)
 
-  pub to-appointments : length (p .sorts ++ flat rowBytes (p .members) ++ flat appointmentBytes (p .appointments)) ≡ 704
-  to-appointments =
-      length-append (p .sorts ++ flat rowBytes (p .members)) (flat appointmentBytes (p .appointments)) ∙ rw (to-rows, appointments-length)
+  pub to-appointments : length (p .sorts ++ rows p ++ appointments p) ≡ 704
+  to-appointments = length-append (p .sorts ++ rows p) (appointments p) ∙ rw (to-rows, appointments-length)
 
   -- "960 bytes"
   pub picture-length : length (pictureOf p) ≡ 960
   unfolding pictureOf
-  picture-length =
-      length-append (p .sorts ++ flat rowBytes (p .members) ++ flat appointmentBytes (p .appointments)) (flat ruleBytes (p .rules))
-      ∙ rw (to-appointments, rules-length)
+  picture-length = length-append (p .sorts ++ rows p ++ appointments p) (rules p) ∙ rw (to-appointments, rules-length)
 
-  pub picture-stored : (l : Bytes)
-      → sets (sets (sets (sets l 0 (p .sorts)) 64 (flat rowBytes (p .members))) 576 (flat appointmentBytes (p .appointments))) 704 (flat ruleBytes (p .rules))
-      ≡ sets l 0 (pictureOf p)
+  -- The four tables, each stored at its place, are the picture stored at the start.
+  pub picture-stored : (l : Bytes) → sets (sets (sets (sets l 0 (p .sorts)) 64 (rows p)) 576 (appointments p)) 704 (rules p) ≡ sets l 0 (pictureOf p)
   unfolding pictureOf
   picture-stored l =
-      ap (λ (m : Bytes). sets (sets m 576 (flat appointmentBytes (p .appointments))) 704 (flat ruleBytes (p .rules)))
-      (store-next l (p .sorts) (flat rowBytes (p .members)) (z .sorts))
-      ∙ ap (λ (m : Bytes). sets m 704 (flat ruleBytes (p .rules)))
-      (store-next l (p .sorts ++ flat rowBytes (p .members)) (flat appointmentBytes (p .appointments)) to-rows)
-      ∙ store-next l (p .sorts ++ flat rowBytes (p .members) ++ flat appointmentBytes (p .appointments)) (flat ruleBytes (p .rules)) to-appointments
+      ap (λ (m : Bytes). sets (sets m 576 (appointments p)) 704 (rules p)) (store-next l (p .sorts) (rows p) (z .sorts))
+      ∙ ap (λ (m : Bytes). sets m 704 (rules p)) (store-next l (p .sorts ++ rows p) (appointments p) to-rows)
+      ∙ store-next l (p .sorts ++ rows p ++ appointments p) (rules p) to-appointments
 
 -- ---- The answer
+
+-- The two bytes behind the picture.
+abbrev numbers : Answer → Bytes
+numbers a = codeOf (a .verdict) ∷ citedOf (a .verdict) ∷ []
 
 module _ (a : Answer) (z : Sized (a .policy)) where
   -- "962 bytes"
   pub answer-length : length (answerBytes a) ≡ 962
-  answer-length = length-append (pictureOf (a .policy)) (codeOf (a .verdict) ∷ citedOf (a .verdict) ∷ []) ∙ rw (picture-length (a .policy) z)
+  answer-length = length-append (pictureOf (a .policy)) (numbers a) ∙ rw (picture-length (a .policy) z)
 
   answer-stored : (buffer : Bytes) → 962 ≤ length buffer
       → set (set (sets buffer 0 (pictureOf (a .policy))) 960 (codeOf (a .verdict))) 961 (citedOf (a .verdict))
       ≡ answerBytes a ++ drop 962 buffer
   answer-stored buffer h =
-      store-next buffer (pictureOf (a .policy)) (codeOf (a .verdict) ∷ citedOf (a .verdict) ∷ []) (picture-length (a .policy) z)
+      store-next buffer (pictureOf (a .policy)) (numbers a) (picture-length (a .policy) z)
       ∙ sets-front buffer (answerBytes a) (rw answer-length h)
       ∙ ap (λ (n : ℕ). answerBytes a ++ drop n buffer) answer-length
 

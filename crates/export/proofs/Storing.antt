@@ -1,6 +1,6 @@
 -- What the loops that draw a picture keep: the bytes to come, stored behind those so far, give the buffer with all of them.
 use mathlib.Core.Path.{_≡_, refl, sym, ap, _∙_}
-use mathlib.Core.List.{List, [], _∷_, _++_, append-assoc}
+use mathlib.Core.List.{List, [], _∷_, _++_}
 use Prim.Native.Nat.{ℕ, zero, suc, _+_, _-_, _*_, _/_, _%_, _≤_, _<_, zero-le}
 use native.Mathlib.Nat.{mul-suc, zero-add}
 use native.Mathlib.Numerals.{add-one}
@@ -43,7 +43,11 @@ module _ (out₀ : Bytes) (at word : ℕ) where
     pub to-come : sets out (at + k) (bytesOf (8 - k) left) ≡ sets out₀ at (bytesOf 8 word)
 
   pub spelling-start : Spelling out₀ word 0
-  spelling-start = record { within = zero-le; length-kept = refl; to-come = ap (λ (n : ℕ). sets out₀ n (bytesOf 8 word)) (omega arith) }
+  spelling-start = record {
+    within = zero-le;
+    length-kept = refl;
+    to-come = ap (λ (n : ℕ). sets out₀ n (bytesOf 8 word)) (omega arith);
+  }
 
   module _ {out : Bytes} {left k : ℕ} (s : Spelling out left k) where
     pub spelling-step : k < 8 → (x : ℕ) → x ≡ left % 256 → Spelling (set out (at + k) x) (left / 256) (k + 1)
@@ -84,7 +88,8 @@ module _ (bytes out₀ : Bytes) where
 
 -- ---- The bytes of a table
 
-pub flat-length : {A : Type 0} (f : A → Bytes) (w : ℕ) → ((x : A) → length (f x) ≡ w) → (xs : List A) → length (flat f xs) ≡ w * length xs
+pub flat-length : {A : Type 0} (f : A → Bytes) (w : ℕ) → ((x : A) → length (f x) ≡ w) → (xs : List A)
+    → length (flat f xs) ≡ w * length xs
 unfolding flat
 flat-length f w each [] = omega arith
 flat-length f w each (x ∷ xs) =
@@ -102,15 +107,17 @@ module _ {A : Type 0} (f : A → Bytes) (w start : ℕ) (xs : List A) (out₀ : 
     pub drawing-step : {out′ : Bytes} → i < length xs → (d : A) → length (f (getD xs i d)) ≡ w
         → out′ ≡ sets out (start + w * i) (f (getD xs i d)) → Drawing out′ (i + 1)
     unfolding flat
-    drawing-step {out′} low d long e =
+    drawing-step low d long e =
+        let bytes = f (getD xs i d) in
+        let here = start + w * i in
         let next : start + w * (i + 1) ≡ start + w * i + w = rw (add-one, mul-suc) (omega arith) in
         record {
-          length-kept = ap length e ∙ length-sets out (start + w * i) (f (getD xs i d)) ∙ s .length-kept;
+          length-kept = ap length e ∙ length-sets out here bytes ∙ s .length-kept;
           to-come =
               rw (e, next, add-one)
-              (ap (λ (n : ℕ). sets (sets out (start + w * i) (f (getD xs i d))) (start + w * i + n) (flat f (drop (suc i) xs))) (sym long)
-              ∙ sym (sets-append out (start + w * i) (f (getD xs i d)) (flat f (drop (suc i) xs)))
-              ∙ ap (λ (l : List A). sets out (start + w * i) (flat f l)) (sym (drop-cons xs i d low))
+              (ap (λ (n : ℕ). sets (sets out here bytes) (here + n) (flat f (drop (suc i) xs))) (sym long)
+              ∙ sym (sets-append out here bytes (flat f (drop (suc i) xs)))
+              ∙ ap (λ (l : List A). sets out here (flat f l)) (sym (drop-cons xs i d low))
               ∙ s .to-come);
         }
 

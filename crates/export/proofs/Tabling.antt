@@ -1,6 +1,6 @@
 -- What the loops that read a picture keep: the places so far are those of the table; the bytes so far are those of the number.
 use mathlib.Core.Path.{_≡_, refl, sym, ap, _∙_}
-use mathlib.Core.List.{List, [], _∷_, _++_}
+use mathlib.Core.List.{List, [], _∷_}
 use Prim.Native.Nat.{ℕ, zero, suc, _+_, _-_, _*_, _^_, _≤_, _<_, zero-le}
 use native.Mathlib.Nat.{pow-suc, pow-le-pow-right}
 use native.Mathlib.Numerals.{add-one}
@@ -63,8 +63,8 @@ numbered-room {k = k} s h =
     let most : 256 ^ (8 - k) ≤ 256 ^ 7 = pow-le-pow-right (lit< tt) seven in
     omega (arith, s .small, most)
 
-pub numbered-step : {b : Bytes} {at word k : ℕ} → Numbered b at word k → 0 < k → (x : ℕ) → x ≡ byte b (at + (k - 1)) → x < 256
-    → Numbered b at (x + 256 * word) (k - 1)
+pub numbered-step : {b : Bytes} {at word k : ℕ} → Numbered b at word k → 0 < k → (x : ℕ)
+    → x ≡ byte b (at + (k - 1)) → x < 256 → Numbered b at (x + 256 * word) (k - 1)
 unfolding numberFrom
 numbered-step {b} {at} {word} {k} s h x e low =
     let more : 8 - (k - 1) ≡ suc (8 - k) = omega (arith, s .within) in

@@ -4,13 +4,6 @@ use Rattle.export.proofs.Picturing.{not-a-picture, no-room, judged}
 use borrow.Author.Needs.{needs}
 use Rattle.export.proofs.selkaum_judge.Statement.{statement}
 use Rattle.export.proofs.selkaum_judge.Tie as tie
-use Rattle.export.proofs.selkaum_judge.Reads as reads
-use Rattle.export.proofs.selkaum_judge.Lts as lts
-use Rattle.export.proofs.drawing.put_policy.Reads as put-policy-reads
-use Rattle.export.proofs.reading.policy_of.Reads as policy-of-reads
-use Rattle.judge.proofs.judge.Reads as judge-reads
-use Rattle.judge.proofs.cited_of.Reads as cited-of-reads
-use Rattle.judge.proofs.code_of.Reads as code-of-reads
 
 returns : tie.Need-returns
 returns c = not-a-picture _ _ _ (c .if1 .taken)
@@ -43,7 +36,20 @@ same-length : tie.Need-same-length
 same-length c = search needs
 
 returns-3 : tie.Need-returns-3
-returns-3 c = judged _ _ _ _ _ _ _ (c .before .before .before .before .before .before .before .before .before .before .if1 .left) (c .before .before .before .before .before .before .before .before .before .if2 .left) (c .before .before .before .before .before .before .before .before .policy-of .ensures) (c .before .before .before .before .before .before .before .judge .ensures) (c .before .before .before .before .put-policy .ensures) (c .before .code-of .ensures) (c .cited-of .ensures)
+returns-3 c =
+    let coded = c .before in
+    let drawn = coded .before .before .before in
+    let judging = drawn .before .before .before in
+    let room = judging .before .before in
+    judged
+    _ _ _ _ _ _ _
+    (room .before .if1 .left)
+    (room .if2 .left)
+    (judging .before .policy-of .ensures)
+    (judging .judge .ensures)
+    (drawn .put-policy .ensures)
+    (coded .code-of .ensures)
+    (c .cited-of .ensures)
 
 pub selkaum-judge-spec : {M : Type 1} → statement M
 selkaum-judge-spec =

@@ -7,9 +7,6 @@ use Rattle.export.proofs.Storing.{Drawing, drawing-start, drawing-step,
 use borrow.Author.Needs.{needs}
 use Rattle.export.proofs.drawing.put_appointments.Statement.{statement}
 use Rattle.export.proofs.drawing.put_appointments.Tie as tie
-use Rattle.export.proofs.drawing.put_appointments.Reads as reads
-use Rattle.export.proofs.drawing.put_appointments.Lts as lts
-use Rattle.export.proofs.drawing.put_four.Reads as put-four-reads
 
 abbrev Inv-loop : tie.InvT-loop
 Inv-loop out₀ appointments i₀ out i = Drawing appointmentBytes 4 576 appointments out₀ out i
@@ -33,7 +30,10 @@ add-put-four : tie.Need-add-put-four Inv-loop μ-loop
 add-put-four c = search needs
 
 put-four-requires : tie.Need-put-four-requires Inv-loop μ-loop
-put-four-requires c κs = omega (arith, c .before .before .before .before .before .pre, c .before .before .loop-test .taken, c .before .before .before .loop .inv .length-kept)
+put-four-requires c κs =
+    let test = c .before .before in
+    let head = test .before in
+    omega (arith, head .before .before .pre, test .loop-test .taken, head .loop .inv .length-kept)
 
 add-i : tie.Need-add-i Inv-loop μ-loop
 add-i c = search needs
@@ -42,7 +42,10 @@ loop-less : tie.Need-loop-less Inv-loop μ-loop
 loop-less c = search needs
 
 loop-again : tie.Need-loop-again Inv-loop μ-loop
-loop-again c = drawing-step _ _ _ _ _ (c .before .before .before .before .before .before .loop .inv) (search needs) _ refl (c .before .before .put-four .ensures)
+loop-again c =
+    let called = c .before .before in
+    let head = called .before .before .before .before in
+    drawing-step _ _ _ _ _ (head .loop .inv) (search needs) _ refl (called .put-four .ensures)
 
 same-length : tie.Need-same-length Inv-loop μ-loop
 same-length c = c .before .loop .inv .length-kept

@@ -5,8 +5,6 @@ use Rattle.export.proofs.Storing.{sets-four}
 use borrow.Author.Needs.{needs}
 use Rattle.export.proofs.drawing.put_four.Statement.{statement}
 use Rattle.export.proofs.drawing.put_four.Tie as tie
-use Rattle.export.proofs.drawing.put_four.Reads as reads
-use Rattle.export.proofs.drawing.put_four.Lts as lts
 
 slice-write-out : tie.Need-slice-write-out
 slice-write-out c = search needs

@@ -5,12 +5,6 @@ use Rattle.reach.proofs.Lists.{length-mapped}
 use borrow.Author.Needs.{needs}
 use Rattle.export.proofs.drawing.put_policy.Statement.{statement}
 use Rattle.export.proofs.drawing.put_policy.Tie as tie
-use Rattle.export.proofs.drawing.put_policy.Reads as reads
-use Rattle.export.proofs.drawing.put_policy.Lts as lts
-use Rattle.export.proofs.drawing.put_appointments.Reads as put-appointments-reads
-use Rattle.export.proofs.drawing.put_rows.Reads as put-rows-reads
-use Rattle.export.proofs.drawing.put_rules.Reads as put-rules-reads
-use Rattle.export.proofs.drawing.put_sorts.Reads as put-sorts-reads
 
 put-sorts-requires : tie.Need-put-sorts-requires
 put-sorts-requires c κs = search needs
@@ -27,8 +21,25 @@ put-rules-requires c κs = search needs
 same-length : tie.Need-same-length
 same-length c = search needs
 
+-- The tables of a policy that is passed have their sizes.
+sized : (c : tie.Start) → Sized (c .args .p)
+sized c =
+    record {
+      sorts = search needs;
+      members = search needs;
+      appointments = search (needs, length-mapped);
+      rules = search (needs, length-mapped);
+    }
+
 returns : tie.Need-returns
-returns c = let sized : Sized (c .before .before .before .before .before .before .before .before .before .before .before .before .before .before .before .before .before .before .before .before .before .args .p) = record { sorts = search needs; members = search needs; appointments = search (needs, length-mapped); rules = search (needs, length-mapped) } in rw (c .before .before .put-rules .ensures, c .before .before .before .before .before .before .put-appointments .ensures, c .before .before .before .before .before .before .before .before .before .before .put-rows .ensures, c .before .before .before .before .before .before .before .before .before .before .before .before .before .before .put-sorts .ensures) (picture-stored _ sized _)
+returns c =
+    let rules = c .before .before in
+    let appointments = rules .before .before .before .before in
+    let rows = appointments .before .before .before .before in
+    let sorts = rows .before .before .before .before in
+    rw
+    (rules .put-rules .ensures, appointments .put-appointments .ensures, rows .put-rows .ensures, sorts .put-sorts .ensures)
+    (picture-stored _ (sized (sorts .before .before .before .before .before .before .before)) _)
 
 pub put-policy-spec : {M : Type 1} → statement M
 put-policy-spec =

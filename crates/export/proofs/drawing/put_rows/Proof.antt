@@ -6,9 +6,6 @@ use Rattle.export.proofs.Storing.{bytes-length, Drawing, drawing-start,
 use borrow.Author.Needs.{needs}
 use Rattle.export.proofs.drawing.put_rows.Statement.{statement}
 use Rattle.export.proofs.drawing.put_rows.Tie as tie
-use Rattle.export.proofs.drawing.put_rows.Reads as reads
-use Rattle.export.proofs.drawing.put_rows.Lts as lts
-use Rattle.export.proofs.drawing.put_word.Reads as put-word-reads
 
 abbrev Inv-loop : tie.InvT-loop
 Inv-loop out₀ rows g₀ out g = Drawing rowBytes 8 64 rows out₀ out g
@@ -32,7 +29,10 @@ array-read-put-word : tie.Need-array-read-put-word Inv-loop μ-loop
 array-read-put-word c = search needs
 
 put-word-requires : tie.Need-put-word-requires Inv-loop μ-loop
-put-word-requires c κs = omega (arith, c .before .before .before .before .pre, c .before .loop-test .taken, c .before .before .loop .inv .length-kept)
+put-word-requires c κs =
+    let test = c .before in
+    let head = test .before in
+    omega (arith, head .before .before .pre, test .loop-test .taken, head .loop .inv .length-kept)
 
 add-g : tie.Need-add-g Inv-loop μ-loop
 add-g c = search needs
@@ -41,7 +41,10 @@ loop-less : tie.Need-loop-less Inv-loop μ-loop
 loop-less c = search needs
 
 loop-again : tie.Need-loop-again Inv-loop μ-loop
-loop-again c = drawing-step _ _ _ _ _ (c .before .before .before .before .before .loop .inv) (search needs) _ (bytes-length 8 _) (c .before .before .put-word .ensures)
+loop-again c =
+    let called = c .before .before in
+    let head = called .before .before .before in
+    drawing-step _ _ _ _ _ (head .loop .inv) (search needs) _ (bytes-length 8 _) (called .put-word .ensures)
 
 same-length : tie.Need-same-length Inv-loop μ-loop
 same-length c = c .before .loop .inv .length-kept

@@ -7,10 +7,6 @@ use Rattle.export.proofs.Storing.{Drawing, drawing-start, drawing-step,
 use borrow.Author.Needs.{needs}
 use Rattle.export.proofs.drawing.put_rules.Statement.{statement}
 use Rattle.export.proofs.drawing.put_rules.Tie as tie
-use Rattle.export.proofs.drawing.put_rules.Reads as reads
-use Rattle.export.proofs.drawing.put_rules.Lts as lts
-use Rattle.export.proofs.drawing.mark.Reads as mark-reads
-use Rattle.export.proofs.drawing.put_four.Reads as put-four-reads
 
 abbrev Inv-loop : tie.InvT-loop
 Inv-loop out₀ rules i₀ out i = Drawing ruleBytes 4 704 rules out₀ out i
@@ -37,7 +33,10 @@ mark-requires : tie.Need-mark-requires Inv-loop μ-loop
 mark-requires c κs = search needs
 
 put-four-requires : tie.Need-put-four-requires Inv-loop μ-loop
-put-four-requires c κs = omega (arith, c .before .before .before .before .before .before .pre, c .before .before .before .loop-test .taken, c .before .before .before .before .loop .inv .length-kept)
+put-four-requires c κs =
+    let test = c .before .before .before in
+    let head = test .before in
+    omega (arith, head .before .before .pre, test .loop-test .taken, head .loop .inv .length-kept)
 
 add-i : tie.Need-add-i Inv-loop μ-loop
 add-i c = search needs
@@ -46,7 +45,11 @@ loop-less : tie.Need-loop-less Inv-loop μ-loop
 loop-less c = search needs
 
 loop-again : tie.Need-loop-again Inv-loop μ-loop
-loop-again c = drawing-step _ _ _ _ _ (c .before .before .before .before .before .before .before .loop .inv) (search needs) _ refl (rw (c .before .before .before .mark .ensures) at (c .before .before .put-four .ensures))
+loop-again c =
+    let called = c .before .before in
+    let marked = called .before in
+    let head = marked .before .before .before .before in
+    drawing-step _ _ _ _ _ (head .loop .inv) (search needs) _ refl (rw (marked .mark .ensures) at (called .put-four .ensures))
 
 same-length : tie.Need-same-length Inv-loop μ-loop
 same-length c = c .before .loop .inv .length-kept

@@ -5,8 +5,6 @@ use Rattle.export.proofs.Storing.{Listing, listing-start, listing-step,
 use borrow.Author.Needs.{needs}
 use Rattle.export.proofs.drawing.put_sorts.Statement.{statement}
 use Rattle.export.proofs.drawing.put_sorts.Tie as tie
-use Rattle.export.proofs.drawing.put_sorts.Reads as reads
-use Rattle.export.proofs.drawing.put_sorts.Lts as lts
 
 abbrev Inv-loop : tie.InvT-loop
 Inv-loop out₀ sorts i₀ out i = Listing sorts out₀ out i

@@ -6,8 +6,6 @@ use mathlib.Core.Path.{refl}
 use borrow.Author.Needs.{needs}
 use Rattle.export.proofs.drawing.put_word.Statement.{statement}
 use Rattle.export.proofs.drawing.put_word.Tie as tie
-use Rattle.export.proofs.drawing.put_word.Reads as reads
-use Rattle.export.proofs.drawing.put_word.Lts as lts
 
 abbrev Inv-loop : tie.InvT-loop
 Inv-loop out₀ at word left₀ k₀ out left k = Spelling out₀ at word out left k

@@ -2,9 +2,6 @@
 use borrow.Author.Needs.{needs}
 use Rattle.export.proofs.reading.appointment_from.Statement.{statement}
 use Rattle.export.proofs.reading.appointment_from.Tie as tie
-use Rattle.export.proofs.reading.appointment_from.Reads as reads
-use Rattle.export.proofs.reading.appointment_from.Lts as lts
-use Rattle.frame.proofs.byte.Reads as byte-reads
 
 byte-requires : tie.Need-byte-requires
 byte-requires c κs = search needs
@@ -28,7 +25,10 @@ byte-requires-4 : tie.Need-byte-requires-4
 byte-requires-4 c κs = search needs
 
 returns : tie.Need-returns
-returns c = rw (c .before .before .before .byte .ensures, c .before .before .byte2 .ensures, c .before .byte3 .ensures, c .byte4 .ensures)
+returns c =
+    let third = c .before in
+    let second = third .before in
+    rw (second .before .byte .ensures, second .byte2 .ensures, third .byte3 .ensures, c .byte4 .ensures)
 
 pub appointment-from-spec : {M : Type 1} → statement M
 appointment-from-spec =

@@ -6,9 +6,6 @@ use Rattle.export.proofs.Tabling.{Tabled, tabled-start, tabled-step, ta
 use borrow.Author.Needs.{needs}
 use Rattle.export.proofs.reading.appointments_of.Statement.{statement}
 use Rattle.export.proofs.reading.appointments_of.Tie as tie
-use Rattle.export.proofs.reading.appointments_of.Reads as reads
-use Rattle.export.proofs.reading.appointments_of.Lts as lts
-use Rattle.export.proofs.reading.appointment_from.Reads as appointment-from-reads
 
 abbrev Inv-loop : tie.InvT-loop
 Inv-loop picture appointments₀ i₀ appointments i = Tabled 32 (appointmentAt picture) appointments i

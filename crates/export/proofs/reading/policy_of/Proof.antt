@@ -3,12 +3,6 @@ use Rattle.export.specs.Picture.{policyOf}
 use borrow.Author.Needs.{needs}
 use Rattle.export.proofs.reading.policy_of.Statement.{statement}
 use Rattle.export.proofs.reading.policy_of.Tie as tie
-use Rattle.export.proofs.reading.policy_of.Reads as reads
-use Rattle.export.proofs.reading.policy_of.Lts as lts
-use Rattle.export.proofs.reading.appointments_of.Reads as appointments-of-reads
-use Rattle.export.proofs.reading.rows_of.Reads as rows-of-reads
-use Rattle.export.proofs.reading.rules_of.Reads as rules-of-reads
-use Rattle.export.proofs.reading.sorts_of.Reads as sorts-of-reads
 
 sorts-of-requires : tie.Need-sorts-of-requires
 sorts-of-requires c κs = search needs
@@ -24,7 +18,10 @@ rules-of-requires c κs = search needs
 
 returns : tie.Need-returns
 unfolding policyOf
-returns c = rw (c .before .before .before .sorts-of .ensures, c .before .before .rows-of .ensures, c .before .appointments-of .ensures, c .rules-of .ensures)
+returns c =
+    let appointments = c .before in
+    let rows = appointments .before in
+    rw (rows .before .sorts-of .ensures, rows .rows-of .ensures, appointments .appointments-of .ensures, c .rules-of .ensures)
 
 pub policy-of-spec : {M : Type 1} → statement M
 policy-of-spec =

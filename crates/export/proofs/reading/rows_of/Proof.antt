@@ -6,9 +6,6 @@ use Rattle.export.proofs.Tabling.{Tabled, tabled-start, tabled-step, ta
 use borrow.Author.Needs.{needs}
 use Rattle.export.proofs.reading.rows_of.Statement.{statement}
 use Rattle.export.proofs.reading.rows_of.Tie as tie
-use Rattle.export.proofs.reading.rows_of.Reads as reads
-use Rattle.export.proofs.reading.rows_of.Lts as lts
-use Rattle.export.proofs.reading.word_from.Reads as word-from-reads
 
 abbrev Inv-loop : tie.InvT-loop
 Inv-loop picture rows₀ g₀ rows g = Tabled 64 (rowAt picture) rows g

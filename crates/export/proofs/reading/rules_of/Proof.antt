@@ -6,9 +6,6 @@ use Rattle.export.proofs.Tabling.{Tabled, tabled-start, tabled-step, ta
 use borrow.Author.Needs.{needs}
 use Rattle.export.proofs.reading.rules_of.Statement.{statement}
 use Rattle.export.proofs.reading.rules_of.Tie as tie
-use Rattle.export.proofs.reading.rules_of.Reads as reads
-use Rattle.export.proofs.reading.rules_of.Lts as lts
-use Rattle.export.proofs.reading.rule_from.Reads as rule-from-reads
 
 abbrev Inv-loop : tie.InvT-loop
 Inv-loop picture rules₀ i₀ rules i = Tabled 64 (ruleAt picture) rules i

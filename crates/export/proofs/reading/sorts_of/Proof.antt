@@ -6,9 +6,6 @@ use Rattle.export.proofs.Tabling.{Tabled, tabled-start, tabled-step, ta
 use borrow.Author.Needs.{needs}
 use Rattle.export.proofs.reading.sorts_of.Statement.{statement}
 use Rattle.export.proofs.reading.sorts_of.Tie as tie
-use Rattle.export.proofs.reading.sorts_of.Reads as reads
-use Rattle.export.proofs.reading.sorts_of.Lts as lts
-use Rattle.frame.proofs.byte.Reads as byte-reads
 
 abbrev Inv-loop : tie.InvT-loop
 Inv-loop picture sorts₀ i₀ sorts i = Tabled 64 (sortAt picture) sorts i

@@ -5,10 +5,6 @@ use mathlib.Core.Path.{_∙_}
 use borrow.Author.Needs.{needs}
 use Rattle.export.proofs.reading.word_from.Statement.{statement}
 use Rattle.export.proofs.reading.word_from.Tie as tie
-use Rattle.export.proofs.reading.word_from.Reads as reads
-use Rattle.export.proofs.reading.word_from.Lts as lts
-use Rattle.export.proofs.reading.wide.Reads as wide-reads
-use Rattle.frame.proofs.byte.Reads as byte-reads
 
 abbrev Inv-loop : tie.InvT-loop
 Inv-loop picture at word₀ k₀ word k = Numbered picture at word k
@@ -32,16 +28,24 @@ wide-requires : tie.Need-wide-requires Inv-loop μ-loop
 wide-requires c κs = search needs
 
 mul-word : tie.Need-mul-word Inv-loop μ-loop
-mul-word c = omega (arith, numbered-room (c .before .before .before .loop .inv) (c .before .before .loop-test .taken))
+mul-word c = let test = c .before .before in omega (arith, numbered-room (test .before .loop .inv) (test .loop-test .taken))
 
 add-word : tie.Need-add-word Inv-loop μ-loop
-add-word c = omega (arith, c .wide .ensures, numbered-room (c .before .before .before .loop .inv) (c .before .before .loop-test .taken))
+add-word c =
+    let test = c .before .before in omega (arith, c .wide .ensures, numbered-room (test .before .loop .inv) (test .loop-test .taken))
 
 loop-less : tie.Need-loop-less Inv-loop μ-loop
 loop-less c = search needs
 
 loop-again : tie.Need-loop-again Inv-loop μ-loop
-loop-again c = numbered-step (c .before .before .before .loop .inv) (c .before .before .loop-test .taken) _ (c .wide .ensures ∙ c .before .byte .ensures) (omega (arith, c .wide .ensures))
+loop-again c =
+    let test = c .before .before in
+    numbered-step
+    (test .before .loop .inv)
+    (test .loop-test .taken)
+    _
+    (c .wide .ensures ∙ c .before .byte .ensures)
+    (omega (arith, c .wide .ensures))
 
 returns : tie.Need-returns Inv-loop μ-loop
 returns c = numbered-end (c .before .loop .inv) (search needs)
