@@ -39,10 +39,10 @@ abbrev pub rules : Policy → Bytes
 rules p = flat ruleBytes (p .rules)
 
 module _ (p : Policy) (z : Sized p) where
-  pub rows-length : length (rows p) ≡ 512
+  rows-length : length (rows p) ≡ 512
   rows-length = flat-length rowBytes 8 (bytes-length 8) (p .members) ∙ ap (λ (n : ℕ). 8 * n) (z .members)
 
-  pub appointments-length : length (appointments p) ≡ 128
+  appointments-length : length (appointments p) ≡ 128
   appointments-length = flat-length appointmentBytes 4 (λ _. refl) (p .appointments) ∙ ap (λ (n : ℕ). 4 * n) (z .appointments)
 
   rules-length : length (rules p) ≡ 256
@@ -61,7 +61,8 @@ module _ (p : Policy) (z : Sized p) where
   picture-length = length-append (p .sorts ++ rows p ++ appointments p) (rules p) ∙ rw (to-appointments, rules-length)
 
   -- The four tables, each stored at its place, are the picture stored at the start.
-  pub picture-stored : (l : Bytes) → sets (sets (sets (sets l 0 (p .sorts)) 64 (rows p)) 576 (appointments p)) 704 (rules p) ≡ sets l 0 (pictureOf p)
+  pub picture-stored : (l : Bytes)
+      → sets (sets (sets (sets l 0 (p .sorts)) 64 (rows p)) 576 (appointments p)) 704 (rules p) ≡ sets l 0 (pictureOf p)
   unfolding pictureOf
   picture-stored l =
       ap (λ (m : Bytes). sets (sets m 576 (appointments p)) 704 (rules p)) (store-next l (p .sorts) (rows p) (z .sorts))

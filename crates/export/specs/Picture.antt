@@ -1,4 +1,7 @@
--- The 960-byte picture: a policy as C and Rust hand it in and get it back, and what `selkaum_judge` writes.
+-- The 960-byte picture of a policy, as C and Rust hand it in and get it back: 64 sort bytes; 64 rows of 8 bytes, little-endian, row g the
+-- set of what is directly in g, bit x object x; 32 appointments of 4 bytes (kind, holder, A, B); 64 rules of 4 bytes (mark: 1 in use, else
+-- empty; U; T; operations). The definitions quote these words. Every policy that the program can
+-- hold is the policy of its picture (proofs/Faithful, `policy-of-picture`).
 use mathlib.Core.Path.{_≡_}
 use mathlib.Core.Bool.{Bool, _&&_}
 use mathlib.Core.List.{List, [], _∷_, _++_}
@@ -46,14 +49,15 @@ sortAt b x = byte b x
 abbrev pub rowAt : Bytes → ℕ → ℕ
 rowAt b g = numberFrom 8 b (64 + 8 * g)
 
--- "32 appointments"
+-- "32 appointments of 4 bytes"
 abbrev pub appointmentAt : Bytes → ℕ → Appointment
 appointmentAt b i = appointmentFrom b (576 + 4 * i)
 
--- "64 rules"
+-- "64 rules of 4 bytes"
 abbrev pub ruleAt : Bytes → ℕ → AccessRule
 ruleAt b i = ruleFrom b (704 + 4 * i)
 
+-- The policy of a picture. A byte past the end of the bytes reads as 0, so all bytes have one.
 unfoldable pub policyOf : Bytes → Policy
 policyOf b =
     record {
@@ -75,26 +79,29 @@ unfoldable pub bytesOf : ℕ → ℕ → Bytes
 bytesOf zero w = []
 bytesOf (suc k) w = (w % 256) ∷ bytesOf k (w / 256)
 
+-- "8 bytes, little-endian"
 abbrev pub rowBytes : ℕ → Bytes
 rowBytes w = bytesOf 8 w
 
+-- "4 bytes (kind, holder, A, B)"
 abbrev pub appointmentBytes : Appointment → Bytes
 appointmentBytes w = w .kind ∷ w .holder ∷ w .a ∷ w .b ∷ []
 
--- "mark written 1 or 0"
+-- The mark is written 1 or 0.
 abbrev pub mark : Bool → ℕ
 mark used = used ⇒ 1 ∥ 0
 
+-- "4 bytes (mark ..; U; T; operations)"
 abbrev pub ruleBytes : AccessRule → Bytes
 ruleBytes r = mark (r .used) ∷ r .users ∷ r .targets ∷ r .operations ∷ []
 
--- "64 sort bytes; 64 rows of 8 bytes, ..; 32 appointments of 4 bytes ..; 64 rules of 4 bytes"
+-- The picture of a policy: "64 sort bytes; 64 rows of 8 bytes, ..; 32 appointments of 4 bytes ..; 64 rules of 4 bytes".
 unfoldable pub pictureOf : Policy → Bytes
 pictureOf p = p .sorts ++ flat rowBytes (p .members) ++ flat appointmentBytes (p .appointments) ++ flat ruleBytes (p .rules)
 
 -- ---- The answer
 
--- "the policy after in the same picture, then code, then cited: 962 bytes"
+-- The policy after in the same picture, then the code, then the cited rule: 962 bytes.
 abbrev pub answerBytes : Answer → Bytes
 answerBytes a = pictureOf (a .policy) ++ (codeOf (a .verdict) ∷ citedOf (a .verdict) ∷ [])
 
@@ -102,8 +109,8 @@ answerBytes a = pictureOf (a .policy) ++ (codeOf (a .verdict) ∷ citedOf (a .ve
 abbrev pub fitting : Bytes → Bytes → Bool
 fitting picture buffer = eqb (length picture) 960 && leb 962 (length buffer)
 
--- The buffer after the answer to a record, and the result. "Where policy isn't 960 bytes or answer is shorter than 962 it returns 0 and
--- writes nothing. Bytes of answer past 962 stay as they were."
+-- The buffer after the answer to a record, and the result. Bytes of the buffer past 962 stay as they were. Where the picture isn't 960 bytes
+-- or the buffer is shorter than 962, nothing is written, and the result is 0.
 pub record Judged (picture bytes buffer buffer′ : Bytes) (n : ℕ) : Type 0 where
   pub written : buffer′ ≡ (fitting picture buffer ⇒ answerBytes (judge (policyOf picture) bytes) ++ drop 962 buffer ∥ buffer)
   pub count : n ≡ (fitting picture buffer ⇒ 962 ∥ 0)

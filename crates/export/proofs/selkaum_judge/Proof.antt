@@ -1,5 +1,6 @@
 -- `selkaum_judge` answers by the judge on the policy of the picture, and stores what it answers. A picture of another length, or a buffer
 -- that is too short, is refused before anything is judged.
+use native.Mathlib.Omega.{arith}
 use Rattle.export.proofs.Picturing.{not-a-picture, no-room, judged}
 use borrow.Author.Needs.{needs}
 use Rattle.export.proofs.selkaum_judge.Statement.{statement}
@@ -9,7 +10,7 @@ returns : tie.Need-returns
 returns c = not-a-picture _ _ _ (c .if1 .taken)
 
 returns-2 : tie.Need-returns-2
-returns-2 c = no-room _ _ _ (c .before .if1 .left) (c .if2 .taken)
+returns-2 c = no-room _ _ _ (c .before .if1 .left) (omega (arith, c .if2 .taken))
 
 policy-of-requires : tie.Need-policy-of-requires
 policy-of-requires c κs = search needs
@@ -44,7 +45,7 @@ returns-3 c =
     judged
     _ _ _ _ _ _ _
     (room .before .if1 .left)
-    (room .if2 .left)
+    (omega (arith, room .if2 .left))
     (judging .before .policy-of .ensures)
     (judging .judge .ensures)
     (drawn .put-policy .ensures)
