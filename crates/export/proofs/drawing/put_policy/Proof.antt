@@ -1,0 +1,53 @@
+-- `put_policy` stores the four tables, each at its place: together they are the picture, by `picture-stored`.
+use Rattle.export.proofs.Picturing.{picture-stored}
+use Rattle.reach.specs.Tables.{Sized}
+use Rattle.reach.proofs.Lists.{length-mapped}
+use borrow.Author.Needs.{needs}
+use Rattle.export.proofs.drawing.put_policy.Statement.{statement}
+use Rattle.export.proofs.drawing.put_policy.Tie as tie
+
+put-sorts-requires : tie.Need-put-sorts-requires
+put-sorts-requires c κs = search needs
+
+put-rows-requires : tie.Need-put-rows-requires
+put-rows-requires c κs = search needs
+
+put-appointments-requires : tie.Need-put-appointments-requires
+put-appointments-requires c κs = search needs
+
+put-rules-requires : tie.Need-put-rules-requires
+put-rules-requires c κs = search needs
+
+same-length : tie.Need-same-length
+same-length c = search needs
+
+-- The tables of a policy that is passed have their sizes.
+sized : (c : tie.Start) → Sized (c .args .p)
+sized c =
+    record {
+      sorts = search needs;
+      members = search needs;
+      appointments = search (needs, length-mapped);
+      rules = search (needs, length-mapped);
+    }
+
+returns : tie.Need-returns
+returns c =
+    let rules = c .before .before in
+    let appointments = rules .before .before .before .before in
+    let rows = appointments .before .before .before .before in
+    let sorts = rows .before .before .before .before in
+    rw
+    (rules .put-rules .ensures, appointments .put-appointments .ensures, rows .put-rows .ensures, sorts .put-sorts .ensures)
+    (picture-stored _ (sized (sorts .before .before .before .before .before .before .before)) _)
+
+pub put-policy-spec : {M : Type 1} → statement M
+put-policy-spec =
+    tie.close
+    (tie.spec
+    put-sorts-requires
+    put-rows-requires
+    put-appointments-requires
+    put-rules-requires
+    same-length
+    returns)

@@ -1,0 +1,57 @@
+-- `put_word` stores the lowest byte of what is left and goes on with the rest: its loop keeps `Spelling`.
+use Prim.Native.Nat.{_-_}
+use native.Mathlib.Omega.{arith}
+use Rattle.export.proofs.Storing.{Spelling, spelling-start, spelling-step, spelling-end}
+use mathlib.Core.Path.{refl}
+use borrow.Author.Needs.{needs}
+use Rattle.export.proofs.drawing.put_word.Statement.{statement}
+use Rattle.export.proofs.drawing.put_word.Tie as tie
+
+abbrev Inv-loop : tie.InvT-loop
+Inv-loop out₀ at word left₀ k₀ out left k = Spelling out₀ at word out left k
+
+abbrev μ-loop : tie.MeasureT-loop
+μ-loop out₀ at word left₀ k₀ out left k = 8 - k
+
+loop-holds : tie.Need-loop-holds Inv-loop μ-loop
+loop-holds c = spelling-start _ _ _
+
+cast-out : tie.Need-cast-out Inv-loop μ-loop
+cast-out c = search needs
+
+add-out : tie.Need-add-out Inv-loop μ-loop
+add-out c = search needs
+
+slice-write-out : tie.Need-slice-write-out Inv-loop μ-loop
+slice-write-out c = omega (arith, c .before .before .pre, c .loop-test .taken, c .before .loop .inv .length-kept)
+
+add-k : tie.Need-add-k Inv-loop μ-loop
+add-k c = search needs
+
+loop-less : tie.Need-loop-less Inv-loop μ-loop
+loop-less c = search needs
+
+loop-again : tie.Need-loop-again Inv-loop μ-loop
+loop-again c = spelling-step _ _ _ (c .before .loop .inv) (c .loop-test .taken) _ refl
+
+same-length : tie.Need-same-length Inv-loop μ-loop
+same-length c = c .before .loop .inv .length-kept
+
+returns : tie.Need-returns Inv-loop μ-loop
+returns c = spelling-end _ _ _ (c .before .loop .inv) (c .loop-test .left)
+
+pub put-word-spec : {M : Type 1} → statement M
+put-word-spec =
+    tie.close
+    (tie.spec
+    Inv-loop
+    μ-loop
+    loop-holds
+    cast-out
+    add-out
+    slice-write-out
+    add-k
+    loop-less
+    loop-again
+    same-length
+    returns)

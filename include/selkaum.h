@@ -1,0 +1,52 @@
+/* Selkaum for C: the functions of libexport.a, which `rt staticlib export` writes. Their contracts are proved (crates/export).
+ *
+ * A lent buffer is a pointer and the number of bytes behind it, in this order. A caller sees to it that the bytes are there, that those
+ * of a buffer that is written overlap no other buffer of the call, and that nothing else writes them meanwhile. Nothing more is asked:
+ * every policy, every record and every length has an answer. No function keeps a pointer, allocates memory or has a state of its own.
+ */
+#ifndef SELKAUM_H
+#define SELKAUM_H
+
+#include <stddef.h>
+#include <stdint.h>
+
+#ifdef __cplusplus
+extern "C" {
+#endif
+
+/* The picture of a policy, 960 bytes:
+ *
+ *     0 ..  63   64 sorts of a byte: 0 empty, 1 group, 2 member, 3 gear
+ *    64 .. 575   64 rows of 8 bytes, the lowest first: row g is the set of what is directly in g, bit x object x
+ *   576 .. 703   32 appointments (warrants) of 4 bytes: kind (0 empty, 1 owner, 2 manager, 3 administrator), holder, A, B
+ *   704 .. 959   64 rules of 4 bytes: mark (1 in use, else empty), U, T, operations
+ *
+ * The founding's picture has 1 at byte 0, 2 at byte 1, 2 at byte 64, 1 at bytes 576 and 577, and 0 elsewhere.
+ */
+#define SELKAUM_POLICY_BYTES 960
+
+/* An answer: the picture of the policy after, the code at 960 (0 done, else the number of the refusal), the cited rule at 961 (255 none). */
+#define SELKAUM_ANSWER_BYTES 962
+#define SELKAUM_CODE 960
+#define SELKAUM_CITED 961
+
+/* Judges one record on a policy, and writes the answer over the first 962 bytes of `answer`; those behind them stay as they are.
+ * Returns 962. If `policy_len` is not 960, or `answer_len` is less than 962, it writes nothing and returns 0.
+ */
+size_t selkaum_judge(const uint8_t *policy, size_t policy_len,
+                     const uint8_t *record, size_t record_len,
+                     uint8_t *answer, size_t answer_len);
+
+/* Judges the records that stand in `input` one after the other, the first on the founding, and writes the text that the program prints:
+ * a line for each record, with its index from 0, its code and the cited rule, and one for a torn place, which is the last. The length of
+ * the input has no limit: the program's `too long` is not among these lines. A buffer that is too small gets as much of the text as it
+ * has room for; bytes behind the text stay as they are. Returns the number of bytes written.
+ */
+size_t selkaum_report(const uint8_t *input, size_t input_len,
+                      uint8_t *out, size_t out_len);
+
+#ifdef __cplusplus
+}
+#endif
+
+#endif
