@@ -47,7 +47,7 @@ returns-3 c =
     (room .before .if1 .left)
     (omega (arith, room .if2 .left))
     (judging .before .policy-of .ensures)
-    (judging .judge .ensures)
+    (judging .judge .ensures .0)
     (drawn .put-policy .ensures)
     (coded .code-of .ensures)
     (c .cited-of .ensures)
