@@ -1,4 +1,5 @@
--- Own gain of PUT, as the code finds it: what the sender owns or manages grows, or he comes to administer a pair, or to be permitted.
+-- Own gain of PUT, as the code finds it: what the sender owns or manages grows, or he comes to administer a pair, or to be permitted. Each
+-- privilege after PUT is read off the rows before it, in which those above the group have gained what is under the object.
 use mathlib.Core.Path.{_≡_, refl, sym, ap, _∙_, subst}
 use mathlib.Core.Bool.{Bool, true, false}
 use mathlib.Core.List.{List}

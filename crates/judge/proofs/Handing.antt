@@ -1,5 +1,5 @@
 -- Hand-over by PUT, as the code finds it: some owner or manager of the group comes to hold an object under the one put that the sender does
--- not own.
+-- not own. Who comes to hold something holds the group already, by an appointment of that kind; and what he comes to hold is under the object.
 use mathlib.Core.Path.{_≡_, refl, sym, ap, _∙_, subst}
 use mathlib.Core.Bool.{Bool}
 use mathlib.Core.List.{List}

@@ -95,7 +95,7 @@ unfoldable pub judge : Policy → List ℕ → Answer
 judge p b =
     let v = verdict p b in record { policy = accepted v ⇒ after p (request b) ∥ p; verdict = v }
 
--- Demand 1: "exactly one answer: done, or one numbered refusal. A refusal leaves the sheet exactly as it stood." One answer is what a
+-- [00:demand.1] "exactly one answer: done, or one numbered refusal. A refusal leaves the policy exactly as it stood." One answer is what a
 -- function returns; that its number is one of the table's, and what a refusal leaves, is said here of an answer on the policy p.
 pub record OneAnswer (p : Policy) (a : Answer) : Type 0 where
   pub numbered : codeOf (a .verdict) ≤ 12

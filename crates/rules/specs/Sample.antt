@@ -105,7 +105,7 @@ abbrev pub trapsExpected : List (ℕ × ℕ)
 trapsExpected =
     no 9 ∷ ok ∷ no 10 ∷ ok ∷ ok ∷ (0, 0) ∷ ok ∷ ok ∷ no 9 ∷ ok ∷ ok ∷ ok ∷ ok ∷ ok ∷ no 9 ∷ ok ∷ no 9 ∷ ok ∷ (0, 0) ∷ []
 
--- The rows of the table of refusals, each tried where a later row would apply too, and the requests that undo, done.
+-- Rows 1 to 10 of the table of refusals, most of them tried where a later row would apply too, and the requests that undo, done.
 abbrev pub rows : List (List ℕ)
 rows =
     -- Torn: no bytes, three bytes, one too few, one too many.
