@@ -52,7 +52,13 @@ wrote-byte buffer n byte room = record {
 
 -- A byte that a full buffer has no room for is cut off.
 pub wrote-full : (buffer : Bytes) (n byte : ℕ) → length buffer ≤ n → Wrote buffer n (byte ∷ []) buffer n
-wrote-full buffer n byte full = record { length-kept = refl; extends = extended; onward = le-refl n; nothing-past = λ past. (refl, refl); rest-kept = refl }
+wrote-full buffer n byte full = record {
+  length-kept = refl;
+  extends = extended;
+  onward = le-refl n;
+  nothing-past = λ past. (refl, refl);
+  rest-kept = refl;
+}
   where
     extended : (text : Bytes) → Holds buffer n text → Holds buffer n (text ++ (byte ∷ []))
     extended text h = record {
@@ -62,7 +68,13 @@ wrote-full buffer n byte full = record { length-kept = refl; extends = extended;
 
 -- Nothing written is no change.
 pub wrote-none : (buffer : Bytes) (n : ℕ) → Wrote buffer n [] buffer n
-wrote-none buffer n = record { length-kept = refl; extends = λ text h. rw append-nil h; onward = le-refl n; nothing-past = λ past. (refl, refl); rest-kept = refl }
+wrote-none buffer n = record {
+  length-kept = refl;
+  extends = λ text h. rw append-nil h;
+  onward = le-refl n;
+  nothing-past = λ past. (refl, refl);
+  rest-kept = refl;
+}
 
 -- Equal texts are written alike.
 pub wrote-as : {a v w b : Bytes} {n r : ℕ} → v ≡ w → Wrote a n v b r → Wrote a n w b r

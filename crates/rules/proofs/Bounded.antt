@@ -90,5 +90,7 @@ cited-bounded p b = go (ℕ-discrete (codeOf (judge p b .verdict)) 0)
 pub one-answer : (p : Policy) (b : List ℕ) (a : Answer) → a ≡ judge p b → OneAnswer p a
 one-answer p b a e = record {
   numbered = code-bounded (a .verdict);
-  refusal-keeps = λ n. ap (λ (r : Answer). r .policy) e ∙ refused-same p b (refused-code p b (λ z. n (ap (λ (r : Answer). codeOf (r .verdict)) e ∙ z)));
+  refusal-keeps = λ n.
+      let refused = refused-code p b (λ z. n (ap (λ (r : Answer). codeOf (r .verdict)) e ∙ z)) in
+      ap (λ (r : Answer). r .policy) e ∙ refused-same p b refused;
 }

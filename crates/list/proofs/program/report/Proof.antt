@@ -81,8 +81,16 @@ loop-less c = omega (arith, found (c .before .before .before .before .before .be
 
 loop-again : tie.Need-loop-again Inv-loop μ-loop
 loop-again c =
-    let told = c .before .before .before .before .before .before .before .before .before in
-    reporting-record _ _ (told .before .before .before .before .loop .inv) _ _ _ (record-at told) (c .before .before .before .before .before .before .before .judge .ensures .0) (c .before .before .before .before .before .code-of .ensures) (c .before .before .before .before .cited-of .ensures) (c .before .before .before .put-line .ensures)
+    let put = c .before .before .before in
+    let cited = put .before in
+    let coded = cited .before in
+    let judged = coded .before .before in
+    let told = judged .before .before in
+    reporting-record _ _ (told .before .before .before .before .loop .inv) _ _ _ (record-at told)
+    (judged .judge .ensures .0)
+    (coded .code-of .ensures)
+    (cited .cited-of .ensures)
+    (put .put-line .ensures)
 
 enum-told : tie.Need-enum-told Inv-loop μ-loop
 enum-told c = search needs
@@ -91,10 +99,16 @@ put-line-requires-2 : tie.Need-put-line-requires-2 Inv-loop μ-loop
 put-line-requires-2 c κs = search needs
 
 same-length : tie.Need-same-length Inv-loop μ-loop
-same-length c = c .before .before .put-line2 .ensures .length-kept ∙ c .before .before .before .before .before .before .before .loop .inv .wrote .length-kept
+same-length c =
+    let put = c .before .before in
+    put .put-line2 .ensures .length-kept ∙ put .before .before .before .before .before .loop .inv .wrote .length-kept
 
 returns : tie.Need-returns Inv-loop μ-loop
-returns c = reporting-torn _ _ (c .before .before .before .before .before .before .before .loop .inv) (sym (c .before .before .before .before .before .before .read-at .ensures) ∙ c .before .before .before .before .enum-told .given .1) (c .before .before .put-line2 .ensures)
+returns c =
+    let put = c .before .before in
+    let told = put .before .before in
+    let read = told .before .before in
+    reporting-torn _ _ (read .before .loop .inv) (sym (read .read-at .ensures) ∙ told .enum-told .given .1) (put .put-line2 .ensures)
 
 enum-told-2 : tie.Need-enum-told-2 Inv-loop μ-loop
 enum-told-2 c = search needs
@@ -103,7 +117,9 @@ same-length-2 : tie.Need-same-length-2 Inv-loop μ-loop
 same-length-2 c = c .before .before .before .loop .inv .wrote .length-kept
 
 returns-2 : tie.Need-returns-2 Inv-loop μ-loop
-returns-2 c = reporting-end _ _ (c .before .before .before .loop .inv) (sym (c .before .before .read-at .ensures) ∙ c .enum-told2 .given .1)
+returns-2 c =
+    let read = c .before .before in
+    reporting-end _ _ (read .before .loop .inv) (sym (read .read-at .ensures) ∙ c .enum-told2 .given .1)
 
 pub report-spec : {M : Type 1} → statement M
 report-spec =

@@ -20,7 +20,9 @@ judge-requires : tie.Need-judge-requires
 judge-requires c κs = search needs
 
 returns : tie.Need-returns
-returns c = c .judge .ensures .0 ∙ ap (judge _) (sym (part-within _ _ _ (c .before .before .before .if1 .taken) (c .before .before .if2 .taken)))
+returns c =
+    let slice = c .before .before in
+    c .judge .ensures .0 ∙ ap (judge _) (sym (part-within _ _ _ (slice .before .if1 .taken) (slice .if2 .taken)))
 
 slice-aggregate-judge : tie.Need-slice-aggregate-judge
 slice-aggregate-judge c = search needs
@@ -29,7 +31,9 @@ judge-requires-2 : tie.Need-judge-requires-2
 judge-requires-2 c κs = search needs
 
 returns-2 : tie.Need-returns-2
-returns-2 c = c .judge2 .ensures .0 ∙ ap (judge _) (sym (⊎-elim (λ w. part-past _ _ _ (w .1 .left)) (λ w. part-falling _ _ _ (w .left)) (c .before .before .if1 .came)))
+returns-2 c =
+    let none = ⊎-elim (λ w. part-past _ _ _ (w .1 .left)) (λ w. part-falling _ _ _ (w .left)) (c .before .before .if1 .came) in
+    c .judge2 .ensures .0 ∙ ap (judge _) (sym none)
 
 pub judge-part-spec : {M : Type 1} → statement M
 judge-part-spec =

@@ -14,7 +14,8 @@ use Rattle.judge.proofs.code_of.Reads as code-of-reads
 use Rattle.list.proofs.run.judge_part.Reads as judge-part-reads
 
 abbrev Inv-loop : tie.InvT-loop
-Inv-loop bytes ends codes₀ cited₀ current₀ start₀ i₀ codes cited current start i = Running bytes ends codes₀ cited₀ current₀ codes cited current start i
+Inv-loop bytes ends codes₀ cited₀ current₀ start₀ i₀ codes cited current start i =
+    Running bytes ends codes₀ cited₀ current₀ codes cited current start i
 
 abbrev μ-loop : tie.MeasureT-loop
 μ-loop bytes ends codes₀ cited₀ current₀ start₀ i₀ codes cited current start i = length ends - i
@@ -41,13 +42,19 @@ code-of-requires : tie.Need-code-of-requires Inv-loop μ-loop
 code-of-requires c κs = search needs
 
 slice-write-codes : tie.Need-slice-write-codes Inv-loop μ-loop
-slice-write-codes c = omega (arith, c .before .before .before .loop-test .taken, c .before .before .before .before .loop .inv .codes-room, running-codes _ _ _ _ _ (c .before .before .before .before .loop .inv))
+slice-write-codes c =
+    let turn = c .before .before .before in
+    let s = turn .before .loop .inv in
+    omega (arith, turn .loop-test .taken, s .codes-room, running-codes _ _ _ _ _ s)
 
 cited-of-requires : tie.Need-cited-of-requires Inv-loop μ-loop
 cited-of-requires c κs = search needs
 
 slice-write-cited : tie.Need-slice-write-cited Inv-loop μ-loop
-slice-write-cited c = omega (arith, c .before .before .before .before .loop-test .taken, c .before .before .before .before .before .loop .inv .cited-room, running-cited _ _ _ _ _ (c .before .before .before .before .before .loop .inv))
+slice-write-cited c =
+    let turn = c .before .before .before .before in
+    let s = turn .before .loop .inv in
+    omega (arith, turn .loop-test .taken, s .cited-room, running-cited _ _ _ _ _ s)
 
 add-i : tie.Need-add-i Inv-loop μ-loop
 add-i c = search needs
@@ -56,7 +63,15 @@ loop-less : tie.Need-loop-less Inv-loop μ-loop
 loop-less c = search needs
 
 loop-again : tie.Need-loop-again Inv-loop μ-loop
-loop-again c = running-step _ _ _ _ _ (c .before .before .before .before .before .before .loop .inv) (c .before .before .before .before .before .loop-test .taken) _ _ _ (c .before .before .before .judge-part .ensures) (c .before .before .code-of .ensures) (c .before .cited-of .ensures)
+loop-again c =
+    let cited = c .before in
+    let coded = cited .before in
+    let judged = coded .before in
+    let turn = judged .before .before in
+    running-step _ _ _ _ _ (turn .before .loop .inv) (turn .loop-test .taken) _ _ _
+    (judged .judge-part .ensures)
+    (coded .code-of .ensures)
+    (cited .cited-of .ensures)
 
 same-length : tie.Need-same-length Inv-loop μ-loop
 same-length c = running-codes _ _ _ _ _ (c .before .loop .inv)

@@ -22,7 +22,9 @@ same-length-2 : tie.Need-same-length-2
 same-length-2 c = search needs
 
 returns : tie.Need-returns
-returns c = (run-as (c .before .before .before .before .before .before .before .initial .ensures) (c .before .before .before .before .run-from .ensures), third _)
+returns c =
+    let ran = c .before .before .before .before in
+    (run-as (ran .before .before .before .initial .ensures) (ran .run-from .ensures), third _)
 
 pub run-list-spec : {M : Type 1} → statement M
 run-list-spec =
