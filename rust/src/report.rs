@@ -81,6 +81,69 @@ fn add_line(text: &mut String, index: usize, code: u8, cited: u8) {
     writeln!(text, "{index} {code} {cited}").expect("a String takes all text");
 }
 
+/// The same lines for a judge that writes the sheet after over the sheet before, into a buffer
+/// as far as it has room; returns the number of bytes written.
+pub fn lines_into(
+    input: &[u8],
+    out: &mut [u8],
+    judge: impl Fn(&mut Sheet, &[u8]) -> (u8, u8),
+) -> usize {
+    let mut text = Buffer { out, written: 0 };
+    let mut reader = Reader::new(input);
+    let mut sheet = Sheet::founding();
+    for index in 0.. {
+        match reader.next_record() {
+            Next::End => break,
+            Next::Torn => {
+                text.line(index, 1, NO_RULE);
+                break;
+            }
+            Next::Record(record) => {
+                let (code, cited) = judge(&mut sheet, record);
+                text.line(index, code, cited);
+            }
+        }
+    }
+    text.written
+}
+
+/// Text in a lent buffer; what it has no room for is dropped.
+struct Buffer<'a> {
+    out: &'a mut [u8],
+    written: usize,
+}
+
+impl Buffer<'_> {
+    fn line(&mut self, index: usize, code: u8, cited: u8) {
+        // Three numbers, the longest of 20 digits, each with a byte behind it.
+        let mut line = [0; 29];
+        let mut first = line.len();
+        put_number(&mut line, &mut first, cited as usize, b'\n');
+        put_number(&mut line, &mut first, code as usize, b' ');
+        put_number(&mut line, &mut first, index, b' ');
+        let text = &line[first..];
+        let room = &mut self.out[self.written..];
+        let fits = text.len().min(room.len());
+        room[..fits].copy_from_slice(&text[..fits]);
+        self.written += fits;
+    }
+}
+
+/// Writes a number in decimal and one byte behind it in front of what starts at `first`.
+fn put_number(line: &mut [u8; 29], first: &mut usize, number: usize, behind: u8) {
+    *first -= 1;
+    line[*first] = behind;
+    let mut left = number;
+    loop {
+        *first -= 1;
+        line[*first] = b'0' + (left % 10) as u8;
+        left /= 10;
+        if left == 0 {
+            return;
+        }
+    }
+}
+
 /// The whole program: standard input in, report out.
 pub fn run(judge: impl Fn(&Sheet, &[u8]) -> Answer) -> std::io::Result<()> {
     use std::io::{Read, Write};

@@ -3,7 +3,7 @@
 
 use beside::board::{self, ANSWER};
 use beside::generate::{self, Profile, Rng};
-use beside::report::{lines, report, MOST_BYTES};
+use beside::report::{lines, lines_into, report, MOST_BYTES};
 use beside::sheet::{Answer, Sheet, PICTURE};
 use beside::{fast, plain};
 
@@ -170,17 +170,20 @@ fn a_hundred_thousand_lines() {
 }
 
 /// A buffer too small gets the start of the text, to the byte; one too large stays as it is
-/// behind the text.
+/// behind the text. The fast judge's lines in a buffer do likewise.
 #[test]
 fn buffers_of_every_size() {
     let input = sample().concat();
     let text = sample_text(16);
+    let fast_into = |input: &[u8], out: &mut [u8]| lines_into(input, out, fast::judge_in_place);
     for room in 0..text.len() + 9 {
-        let mut out = vec![PAINT; room + 4];
-        let written = board::report_into(&input, &mut out[..room]);
-        assert_eq!(written, room.min(text.len()));
-        assert_eq!(&out[..written], &text.as_bytes()[..written]);
-        assert!(out[written..].iter().all(|&byte| byte == PAINT));
+        for report_into in [board::report_into, fast_into] {
+            let mut out = vec![PAINT; room + 4];
+            let written = report_into(&input, &mut out[..room]);
+            assert_eq!(written, room.min(text.len()));
+            assert_eq!(&out[..written], &text.as_bytes()[..written]);
+            assert!(out[written..].iter().all(|&byte| byte == PAINT));
+        }
     }
 }
 
@@ -190,7 +193,7 @@ fn buffers_of_every_size() {
 fn room_for_every_line() {
     for input in (0..100).chain([39_999, 40_000, 40_003, 40_004, 400_003]) {
         let mut text = String::new();
-        for index in 0..(input + 3) / 4 {
+        for index in 0..input.div_ceil(4) {
             text += &format!("{index} 12 255\n");
         }
         assert!(board::room(input) >= text.len(), "{input} bytes");
