@@ -191,7 +191,7 @@ fn buffers_of_every_size() {
 /// record and what is left over is torn.
 #[test]
 fn room_for_every_line() {
-    for input in (0..100).chain([39_999, 40_000, 40_003, 40_004, 400_003]) {
+    for input in (0_usize..100).chain([39_999, 40_000, 40_003, 40_004, 400_003]) {
         let mut text = String::new();
         for index in 0..input.div_ceil(4) {
             text += &format!("{index} 12 255\n");
