@@ -1,7 +1,14 @@
 //! The judge in the plainest way: document 01 sentence by sentence, with loops over objects,
 //! members and operations, and holdings compared before and after. Speed is no concern here.
 
+mod holdings;
+mod record;
+
 use crate::sheet::*;
+use holdings::{
+    in_use, objects, on_table, rule_in_use, sort_is, stored_in, warrant_in_use, Holdings,
+};
+use record::{read, Request, Request::*};
 
 /// The refusals of "When the board says no", by number.
 pub const DONE: u8 = 0;
@@ -17,49 +24,6 @@ pub const NO_AUTHORITY: u8 = 9;
 pub const OWN_GAIN: u8 = 10;
 pub const HAND_OVER: u8 = 11;
 pub const ORPHAN: u8 = 12;
-
-/// A record's fields by the table "Request records"; the sender stands apart.
-#[derive(Clone, Copy)]
-enum Request {
-    Make {
-        place: u8,
-        sort: u8,
-        group: u8,
-    },
-    Put {
-        object: u8,
-        group: u8,
-    },
-    Take {
-        object: u8,
-        group: u8,
-    },
-    Appoint {
-        place: u8,
-        kind: u8,
-        holder: u8,
-        a: u8,
-        b: u8,
-    },
-    Dismiss {
-        place: u8,
-    },
-    Grant {
-        place: u8,
-        u: u8,
-        t: u8,
-        ops: u8,
-    },
-    Withdraw {
-        place: u8,
-    },
-    Use {
-        gear: u8,
-        operation: u8,
-    },
-}
-
-use Request::*;
 
 /// "The judge takes a sheet and one record and returns the sheet after, a code and a cited
 /// rule: for an accepted USE the lowest permitting place, otherwise 255."
@@ -119,100 +83,6 @@ fn refuse_if(applies: bool, code: u8) -> Result<(), u8> {
     } else {
         Ok(())
     }
-}
-
-// ---- The record -------------------------------------------------------------------------
-
-/// Checks 1 to 3, then the fields: the sender and the request.
-fn read(record: &[u8]) -> Result<(u8, Request), u8> {
-    // 1: "fewer than 4 bytes, or their number differs from the length field"
-    refuse_if(record.len() < 4, TORN)?;
-    let length = u16::from_le_bytes([record[0], record[1]]);
-    refuse_if(record.len() != length as usize, TORN)?;
-    // 2: "kind not 1 to 8"
-    let kind = u16::from_le_bytes([record[2], record[3]]);
-    refuse_if(!(1..=8).contains(&kind), UNKNOWN)?;
-    // 3: "length isn't the kind's"
-    let kinds_length = match kind {
-        1 => 8,
-        2 | 3 | 8 => 7,
-        4 => 10,
-        6 => 9,
-        _ => 6,
-    };
-    refuse_if(length != kinds_length, MISFIT)?;
-
-    let sender = record[4];
-    let field = &record[5..];
-    let request = match kind {
-        1 => Make {
-            place: field[0],
-            sort: field[1],
-            group: field[2],
-        },
-        2 => Put {
-            object: field[0],
-            group: field[1],
-        },
-        3 => Take {
-            object: field[0],
-            group: field[1],
-        },
-        4 => Appoint {
-            place: field[0],
-            kind: field[1],
-            holder: field[2],
-            a: field[3],
-            b: field[4],
-        },
-        5 => Dismiss { place: field[0] },
-        6 => Grant {
-            place: field[0],
-            u: field[1],
-            t: field[2],
-            ops: field[3],
-        },
-        7 => Withdraw { place: field[0] },
-        _ => Use {
-            gear: field[0],
-            operation: field[1],
-        },
-    };
-    Ok((sender, request))
-}
-
-// ---- What is in use ---------------------------------------------------------------------
-
-fn on_table(number: u8, places: usize) -> bool {
-    (number as usize) < places
-}
-
-/// "An unknown sort counts as empty"; a number outside the table names nothing.
-fn in_use(sheet: &Sheet, x: u8) -> bool {
-    on_table(x, OBJECTS) && (GROUP..=GEAR).contains(&sheet.sorts[x as usize])
-}
-
-fn sort_is(sheet: &Sheet, x: u8, sort: u8) -> bool {
-    on_table(x, OBJECTS) && sheet.sorts[x as usize] == sort
-}
-
-/// "An unknown kind counts as empty."
-fn warrant_in_use(sheet: &Sheet, place: u8) -> bool {
-    (OWNER..=ADMINISTRATOR).contains(&sheet.warrants[place as usize].kind)
-}
-
-/// "A rule place has its own mark, empty or in use."
-fn rule_in_use(sheet: &Sheet, place: u8) -> bool {
-    sheet.rules[place as usize].mark
-}
-
-/// Is x stored as directly in g? Both numbers are on the table.
-fn stored_in(sheet: &Sheet, x: u8, g: u8) -> bool {
-    sheet.members[g as usize] >> x & 1 == 1
-}
-
-fn objects() -> std::ops::Range<u8> {
-    0..OBJECTS as u8
 }
 
 // ---- Checks 5 to 8 ----------------------------------------------------------------------
@@ -292,100 +162,6 @@ fn already_so(sheet: &Sheet, request: Request) -> bool {
         Put { object, group } => stored_in(sheet, object, group),
         Take { object, group } => !stored_in(sheet, object, group),
         Dismiss { .. } | Withdraw { .. } | Use { .. } => false,
-    }
-}
-
-// ---- Reach and holdings -----------------------------------------------------------------
-
-/// A sheet with its reach worked out: it answers who owns, manages, administers, may use.
-struct Holdings {
-    sheet: Sheet,
-    /// `under[x][g]`: x is under g.
-    under: [[bool; OBJECTS]; OBJECTS],
-}
-
-impl Holdings {
-    fn of(sheet: Sheet) -> Holdings {
-        let mut under = [[false; OBJECTS]; OBJECTS];
-        for x in objects() {
-            // "An empty object is under nothing."
-            if in_use(&sheet, x) {
-                climb(&sheet, x, &mut under[x as usize]);
-            }
-        }
-        Holdings { sheet, under }
-    }
-
-    /// "x is under g if x = g or a chain of one or more direct memberships leads from x up to
-    /// g." A number outside the table covers nothing.
-    fn under(&self, x: u8, g: u8) -> bool {
-        on_table(x, OBJECTS) && on_table(g, OBJECTS) && self.under[x as usize][g as usize]
-    }
-
-    /// Warrants of this kind that the member holds. Only a member holds any.
-    fn warrants(&self, member: u8, kind: u8) -> impl Iterator<Item = &Warrant> {
-        let is_member = sort_is(&self.sheet, member, MEMBER);
-        self.sheet
-            .warrants
-            .iter()
-            .filter(move |w| is_member && w.kind == kind && w.holder == member)
-    }
-
-    /// "A member owns x if he holds an owner warrant with x under its A."
-    fn owns(&self, member: u8, x: u8) -> bool {
-        self.warrants(member, OWNER).any(|w| self.under(x, w.a))
-    }
-
-    /// "Manages x likewise by a manager warrant only."
-    fn manages(&self, member: u8, x: u8) -> bool {
-        self.warrants(member, MANAGER).any(|w| self.under(x, w.a))
-    }
-
-    fn owns_or_manages(&self, member: u8, x: u8) -> bool {
-        self.owns(member, x) || self.manages(member, x)
-    }
-
-    /// "Administers the pair (a, b) if he holds one administrator warrant with a under A and
-    /// b under B."
-    fn administers(&self, member: u8, a: u8, b: u8) -> bool {
-        self.warrants(member, ADMINISTRATOR)
-            .any(|w| self.under(a, w.a) && self.under(b, w.b))
-    }
-
-    /// "He is permitted operation k on gear x if some one rule has bit k, himself under U and
-    /// x under T." The lowest such place.
-    fn permitting_rule(&self, member: u8, operation: u8, gear: u8) -> Option<u8> {
-        let permits = |r: &Rule| {
-            r.mark
-                && r.ops >> operation & 1 == 1
-                && self.under(member, r.u)
-                && self.under(gear, r.t)
-        };
-        self.sheet.rules.iter().position(permits).map(|p| p as u8)
-    }
-
-    fn permitted(&self, member: u8, operation: u8, gear: u8) -> bool {
-        self.permitting_rule(member, operation, gear).is_some()
-    }
-
-    fn of_sort(&self, sort: u8) -> impl Iterator<Item = u8> + '_ {
-        objects().filter(move |&x| sort_is(&self.sheet, x, sort))
-    }
-
-    fn objects_in_use(&self) -> impl Iterator<Item = u8> + '_ {
-        objects().filter(|&x| in_use(&self.sheet, x))
-    }
-}
-
-/// Marks `at` and all that a chain leads up to from it. "A stored membership counts only from
-/// an object in use to a group in use"; `at` is in use. What is marked is not climbed again,
-/// so a circle ends.
-fn climb(sheet: &Sheet, at: u8, found: &mut [bool; OBJECTS]) {
-    found[at as usize] = true;
-    for g in objects() {
-        if !found[g as usize] && sort_is(sheet, g, GROUP) && stored_in(sheet, at, g) {
-            climb(sheet, g, found);
-        }
     }
 }
 
