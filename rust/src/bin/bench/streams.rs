@@ -1,0 +1,147 @@
+//! The generator's streams: whole reports, and the judges alone.
+
+use crate::timing::{best, call, Pair, Row, TORN};
+use beside::board::{self, ANSWER};
+use beside::fast;
+use beside::generate::{self, Profile, Rng};
+use beside::report::{lines_into, Next, Reader};
+use beside::sheet::{Sheet, PICTURE};
+use std::hint::black_box;
+
+const STREAMS: usize = 10;
+const RECORDS: usize = 1000;
+
+/// For each profile: a report, a call for each record, and a call with a torn record.
+pub fn measure() -> Vec<Row> {
+    let row = |profile| {
+        let streams = streams(profile);
+        Row {
+            name: format!("{profile:?}"),
+            pairs: vec![reports(&streams), calls(&streams), torn_calls(&streams)],
+        }
+    };
+    Profile::ALL.map(row).into()
+}
+
+pub fn print(best: &[Row], worst: &[Row]) {
+    println!("## Reports\n");
+    println!("One call for {RECORDS} records, from the bytes to the text.\n");
+    println!(
+        "| Streams | Board, a record | Fast | Ratio | Board, records/s | Fast | \
+         Worst stack: board | Fast | Ratio |"
+    );
+    println!("|---|--:|--:|--:|--:|--:|--:|--:|--:|");
+    for (best, worst) in best.iter().zip(worst) {
+        let (pair, at_worst) = (best.pairs[0], worst.pairs[0]);
+        println!(
+            "| {} | {:.0} | {:.0} | {:.1} | {:.0} | {:.0} | {:.0} | {:.0} | {:.1} |",
+            best.name,
+            pair.board,
+            pair.fast,
+            pair.ratio(),
+            1e9 / pair.board,
+            1e9 / pair.fast,
+            at_worst.board,
+            at_worst.fast,
+            at_worst.ratio()
+        );
+    }
+    println!("\n## The judge alone\n");
+    println!(
+        "One call for each record, on what the call before returned. The board reads and writes \
+         a picture in each call, the fast judge changes a sheet where it lies.\n"
+    );
+    println!("| Streams | Board, a call | Board, torn record | Difference | Fast | Ratio |");
+    println!("|---|--:|--:|--:|--:|--:|");
+    for row in best {
+        let (call, torn) = (row.pairs[1], row.pairs[2]);
+        let net = call.board - torn.board;
+        println!(
+            "| {} | {:.0} | {:.0} | {net:.0} | {:.0} | {:.1} |",
+            row.name,
+            call.board,
+            torn.board,
+            call.fast,
+            net / call.fast
+        );
+    }
+    println!();
+}
+
+/// The streams of a profile, each as one run of bytes.
+pub fn streams(profile: Profile) -> Vec<Vec<u8>> {
+    let stream = |seed| {
+        let mut rng = Rng::new(1000 + seed);
+        generate::stream(&mut rng, profile, RECORDS, fast::judge).concat()
+    };
+    (0..STREAMS as u64).map(stream).collect()
+}
+
+/// Per record of a report.
+fn reports(streams: &[Vec<u8>]) -> Pair {
+    let longest = streams.iter().map(Vec::len).max().expect("streams");
+    let mut board_text = vec![0; board::room(longest)];
+    let mut fast_text = board_text.clone();
+    mean(streams.iter().map(|input| {
+        best(
+            RECORDS,
+            || {
+                black_box(board::report_into(black_box(input), &mut board_text));
+            },
+            || {
+                let judge = fast::judge_in_place;
+                black_box(lines_into(black_box(input), &mut fast_text, judge));
+            },
+        )
+    }))
+}
+
+/// Per record that is judged by a call of its own.
+fn calls(streams: &[Vec<u8>]) -> Pair {
+    let calls = |input: &Vec<u8>| {
+        best(
+            RECORDS,
+            || by_board(black_box(input)),
+            || {
+                black_box(by_fast(black_box(input)));
+            },
+        )
+    };
+    mean(streams.iter().map(calls))
+}
+
+fn mean(pairs: impl Iterator<Item = Pair>) -> Pair {
+    let pairs: Vec<Pair> = pairs.collect();
+    let sum = |of: fn(&Pair) -> f64| pairs.iter().map(of).sum::<f64>();
+    Pair {
+        board: sum(|pair| pair.board) / pairs.len() as f64,
+        fast: sum(|pair| pair.fast) / pairs.len() as f64,
+    }
+}
+
+/// Two buffers take turns: the answer to one record is the policy for the next.
+fn by_board(input: &[u8]) {
+    let (mut first, mut second) = ([0; ANSWER], [0; ANSWER]);
+    first[..PICTURE].copy_from_slice(&board::founding());
+    let (mut before, mut after) = (&mut first, &mut second);
+    let mut reader = Reader::new(input);
+    while let Next::Record(record) = reader.next_record() {
+        black_box(board::judge_into(&before[..PICTURE], record, after));
+        std::mem::swap(&mut before, &mut after);
+    }
+}
+
+/// The sheet after the stream.
+fn by_fast(input: &[u8]) -> Sheet {
+    let mut sheet = Sheet::founding();
+    let mut reader = Reader::new(input);
+    while let Next::Record(record) = reader.next_record() {
+        black_box(fast::judge_in_place(&mut sheet, record));
+    }
+    sheet
+}
+
+/// Per call with a torn record, on the policies that the streams end with.
+fn torn_calls(streams: &[Vec<u8>]) -> Pair {
+    mean(streams.iter().map(|input| call(&by_fast(input), &TORN, 1)))
+}

@@ -1,0 +1,136 @@
+//! Holds the proved board against both judges for a given time:
+//!
+//!     cargo run --release --bin soak -- SECONDS SEED
+//!
+//! Streams from the founding are compared as whole reports, whole, torn and with bytes changed,
+//! and record by record; single requests on sheets of any value. A difference is printed with
+//! the shortest list of records that shows it, and ends the run with status 1. At the end it
+//! prints how much was compared.
+
+use beside::compare;
+use beside::fast;
+use beside::generate::{self, Profile, Rng};
+use beside::sheet::Sheet;
+use beside::tally::{Counts, Shapes};
+use std::process::ExitCode;
+use std::time::{Duration, Instant};
+
+const SHEETS_PER_TURN: usize = 400;
+const REQUESTS_PER_SHEET: usize = 5;
+
+fn main() -> ExitCode {
+    let arguments: Vec<String> = std::env::args().skip(1).collect();
+    let numbers: Vec<Option<u64>> = arguments.iter().map(|a| a.parse().ok()).collect();
+    let &[Some(seconds), Some(seed)] = &numbers[..] else {
+        eprintln!("usage: soak SECONDS SEED");
+        return ExitCode::from(2);
+    };
+    match soak(Duration::from_secs(seconds), seed) {
+        Ok(()) => ExitCode::SUCCESS,
+        Err(difference) => {
+            println!("seed {seed}: a difference\n{difference}");
+            ExitCode::FAILURE
+        }
+    }
+}
+
+/// Takes turns until the time is over, and tells every five minutes how far it is.
+fn soak(time: Duration, seed: u64) -> Result<(), String> {
+    let start = Instant::now();
+    let mut rng = Rng::new(seed);
+    let mut done = Done::default();
+    let mut told = 0;
+    while start.elapsed() < time {
+        for profile in Profile::ALL {
+            done.stream(&mut rng, profile)?;
+        }
+        for _ in 0..SHEETS_PER_TURN {
+            done.requests(&mut rng)?;
+        }
+        if start.elapsed().as_secs() / 300 > told {
+            told = start.elapsed().as_secs() / 300;
+            println!("{} s: {}, no difference", 300 * told, done.so_far());
+        }
+    }
+    let seconds = start.elapsed().as_secs();
+    println!("seed {seed}, {seconds} s, no difference between the board, plain and fast");
+    println!("{}", done.so_far());
+    println!("streams: {}", done.shapes);
+    println!("stream records by kind and code\n{}", done.on_streams);
+    println!("single requests by kind and code\n{}", done.on_sheets);
+    Ok(())
+}
+
+/// What has been compared.
+#[derive(Default)]
+struct Done {
+    streams: usize,
+    reports: usize,
+    report_lines: usize,
+    on_streams: Counts,
+    on_sheets: Counts,
+    shapes: Shapes,
+}
+
+impl Done {
+    fn so_far(&self) -> String {
+        format!(
+            "{} streams of {} records one by one; {} reports with {} lines; {} single requests",
+            self.streams,
+            self.on_streams.total(),
+            self.reports,
+            self.report_lines,
+            self.on_sheets.total()
+        )
+    }
+
+    /// One stream: record by record, and as three reports.
+    fn stream(&mut self, rng: &mut Rng, profile: Profile) -> Result<(), String> {
+        let count = 1 + rng.below(1500);
+        let records = generate::stream(rng, profile, count, fast::judge);
+        let mut last = Sheet::founding();
+        compare::each_record(&records, |record, answer| {
+            self.on_streams.add(record, answer.code);
+            if answer.code == 0 {
+                last = Sheet::from_picture(&answer.picture);
+                self.shapes.add_any(&last);
+            }
+        })?;
+        self.shapes.add_last(&last);
+        self.streams += 1;
+
+        let whole = records.concat();
+        self.report(&whole)?;
+        let torn = [whole.clone(), generate::torn_tail(rng)].concat();
+        self.report(&torn)?;
+        let mut spoilt = whole;
+        for _ in 0..1 + rng.below(20) {
+            let at = rng.below(spoilt.len());
+            spoilt[at] = if rng.percent(50) {
+                rng.byte()
+            } else {
+                rng.below(12) as u8
+            };
+        }
+        self.report(&spoilt)
+    }
+
+    fn report(&mut self, input: &[u8]) -> Result<(), String> {
+        let text = compare::reports(input)?;
+        self.reports += 1;
+        self.report_lines += text.iter().filter(|&&byte| byte == b'\n').count();
+        Ok(())
+    }
+
+    /// A few requests on one sheet of any value.
+    fn requests(&mut self, rng: &mut Rng) -> Result<(), String> {
+        let picture = generate::picture(rng);
+        let sheet = Sheet::from_picture(&picture);
+        for _ in 0..REQUESTS_PER_SHEET {
+            let record = generate::request(rng, &sheet);
+            let answer = compare::single(&picture, &record)?;
+            self.on_sheets.add(&record, answer.code);
+        }
+        Ok(())
+    }
+}

@@ -1,0 +1,96 @@
+//! The proved board, as `include/selkaum.h` declares it. A slice tells the library where its
+//! bytes are and how many, which is all that it asks of a caller; so the functions here are safe.
+
+use crate::sheet::{Sheet, NO_RULE, PICTURE};
+
+/// Length of an answer: the picture of the sheet after, the code and the cited rule.
+pub const ANSWER: usize = PICTURE + 2;
+
+extern "C" {
+    fn selkaum_judge(
+        policy: *const u8,
+        policy_len: usize,
+        record: *const u8,
+        record_len: usize,
+        answer: *mut u8,
+        answer_len: usize,
+    ) -> usize;
+
+    fn selkaum_report(input: *const u8, input_len: usize, out: *mut u8, out_len: usize) -> usize;
+}
+
+/// An answer whose sheet is a picture, as the board returns it.
+#[derive(Clone, Copy, Debug, PartialEq, Eq)]
+pub struct Answer {
+    pub picture: [u8; PICTURE],
+    pub code: u8,
+    pub cited: u8,
+}
+
+impl From<crate::sheet::Answer> for Answer {
+    fn from(answer: crate::sheet::Answer) -> Answer {
+        Answer {
+            picture: answer.sheet.picture(),
+            code: answer.code,
+            cited: answer.cited,
+        }
+    }
+}
+
+/// `selkaum_judge` as it is: writes the answer over the start of `answer`, if the lengths fit,
+/// and returns the number of bytes written.
+pub fn judge_into(policy: &[u8], record: &[u8], answer: &mut [u8]) -> usize {
+    // SAFETY: the slices' bytes are there, and none is lent twice, for `answer` is lent alone.
+    unsafe {
+        selkaum_judge(
+            policy.as_ptr(),
+            policy.len(),
+            record.as_ptr(),
+            record.len(),
+            answer.as_mut_ptr(),
+            answer.len(),
+        )
+    }
+}
+
+/// The board's answer to one record on the sheet of a picture.
+pub fn judge(picture: &[u8; PICTURE], record: &[u8]) -> Answer {
+    let mut bytes = [0; ANSWER];
+    let written = judge_into(picture, record, &mut bytes);
+    assert_eq!(written, ANSWER, "the board writes a whole answer");
+    let mut answer = Answer {
+        picture: [0; PICTURE],
+        code: bytes[PICTURE],
+        cited: bytes[PICTURE + 1],
+    };
+    answer.picture.copy_from_slice(&bytes[..PICTURE]);
+    answer
+}
+
+/// `selkaum_report` as it is: writes the text over the start of `out`, as far as there is room,
+/// and returns the number of bytes written.
+pub fn report_into(input: &[u8], out: &mut [u8]) -> usize {
+    // SAFETY: the slices' bytes are there, and `out` is lent alone.
+    unsafe { selkaum_report(input.as_ptr(), input.len(), out.as_mut_ptr(), out.len()) }
+}
+
+/// The board's lines for all records of the input, the first on the founding.
+pub fn report(input: &[u8]) -> Vec<u8> {
+    let mut text = vec![0; room(input.len())];
+    let written = report_into(input, &mut text);
+    text.truncate(written);
+    text
+}
+
+/// As many bytes as the lines of an input of this length can have. A record has four bytes at
+/// least; a torn place needs a line more.
+pub fn room(input: usize) -> usize {
+    let lines = input / 4 + 1;
+    let longest = format!("{lines} 12 {NO_RULE}\n");
+    lines * longest.len()
+}
+
+/// The picture of the founding.
+pub fn founding() -> [u8; PICTURE] {
+    Sheet::founding().picture()
+}
