@@ -1,5 +1,9 @@
 //! The few loops of the fast judge that look at a whole table at once. `loops` says what they
-//! mean, one entry after the other; on x86-64 the same is done with wide registers.
+//! mean, one entry after the other, and is what other machines run; on x86-64 the same is done
+//! with wide registers. The test below holds the two against each other.
+//!
+//! The one danger of the `unsafe` here is an instruction that the machine doesn't have: no
+//! pointer is used, and every load goes through a checked index or a whole chunk.
 
 use crate::sheet::{Rule, Warrant, OBJECTS, RULES, WARRANTS};
 
@@ -96,13 +100,14 @@ mod loops {
     }
 }
 
-/// The same on 128-bit registers.
+/// The same on 128-bit registers, which every x86-64 has.
 #[cfg(target_arch = "x86_64")]
 mod sse2 {
     use super::*;
     use std::arch::x86_64::*;
 
-    /// SAFETY, of all five: every x86-64 has SSE2.
+    /// A call of a function that names its instructions counts as unsafe wherever they are not
+    /// named. SAFETY, of all five: SSE2 is part of x86-64.
     pub mod safe {
         use super::*;
 
@@ -149,7 +154,9 @@ mod sse2 {
         !missed
     }
 
-    /// All ones in the lane of each of four rows that has nothing of the set.
+    /// All ones in the lane of each of four rows that has nothing of the set. SSE2 compares no
+    /// more than 32 bits at once: the low halves of the four rows go to one register, the high
+    /// halves to another, and a row has nothing of the set if both halves together are zero.
     #[inline]
     #[target_feature(enable = "sse2")]
     fn four_missed(rows: &[u64; OBJECTS], from: usize, wanted: __m128i) -> __m128i {

@@ -40,9 +40,9 @@ pub fn measure() -> Vec<Row> {
 fn row(name: String, shape: Shape, size: Size) -> Row {
     let sheet = club(shape, size);
     let requests = requests(size);
-    let mut pairs = vec![call(&sheet, &TORN, 1)];
-    pairs.extend(KINDS.map(|kind| call(&sheet, &requests[kind].done, 0)));
-    Row { name, pairs }
+    let mut times = vec![call(&sheet, &TORN, 1)];
+    times.extend(KINDS.map(|kind| call(&sheet, &requests[kind].done, 0)));
+    Row { name, times }
 }
 
 pub fn print(rows: &[Row]) {
@@ -56,8 +56,8 @@ pub fn print(rows: &[Row]) {
     println!("|---|--:|--:|--:|--:|");
     for row in rows {
         print!("| {} ", row.name);
-        for pair in &row.pairs[1..] {
-            let net = pair.minus(row.pairs[0]);
+        for times in &row.times[1..] {
+            let net = times.best().minus(row.times[0].best());
             print!("| {:.0} / {:.0} ", net.board, net.fast);
         }
         println!("|");

@@ -1,7 +1,7 @@
 //! Each kind by itself, on one policy.
 
 use crate::club::{club, requests, Shape, Size, FULL, MIDDLING};
-use crate::timing::{call, Row, TORN};
+use crate::timing::{call, Pair, Row, TORN};
 
 /// The two policies that the kinds are measured on.
 const SIZES: [Size; 2] = [MIDDLING, FULL];
@@ -14,7 +14,7 @@ pub fn measure() -> Vec<Row> {
         for request in requests(size) {
             rows.push(Row {
                 name: request.name.to_string(),
-                pairs: vec![
+                times: vec![
                     call(&sheet, &TORN, 1),
                     call(&sheet, &request.done, 0),
                     call(&sheet, &request.refused, 9),
@@ -27,29 +27,28 @@ pub fn measure() -> Vec<Row> {
 
 pub fn print(rows: &[Row]) {
     println!("## Each kind\n");
-    println!("One call of the judge, without the time of the call with a torn record.\n");
+    println!("One call of the judge, without the time of the call with a torn record.");
     for (size, rows) in SIZES.iter().zip(rows.chunks(rows.len() / SIZES.len())) {
+        let torn = rows[0].times[0].best();
         println!(
-            "With {} objects, {} appointments and {} rules in use:\n",
-            size.objects, size.warrants, size.rules
+            "\nWith {} objects, {} appointments and {} rules in use; a torn record takes the board \
+             {:.0}, the fast judge {:.0}:\n",
+            size.objects, size.warrants, size.rules, torn.board, torn.fast
         );
-        println!(
-            "| Kind | Done: board | fast | ratio | No authority: board | fast | ratio | Torn: board | fast |"
-        );
-        println!("|---|--:|--:|--:|--:|--:|--:|--:|--:|");
+        println!("| Kind | Done: board | Fast | Ratio | No authority: board | Fast | Ratio |");
+        println!("|---|--:|--:|--:|--:|--:|--:|");
         for row in rows {
-            print_row(row);
+            let [torn, done, refused] = row.times[..] else {
+                unreachable!("three records are measured")
+            };
+            let done = cells(done.best().minus(torn.best()));
+            let refused = cells(refused.best().minus(torn.best()));
+            println!("| {} | {done} | {refused} |", row.name);
         }
-        println!();
     }
+    println!();
 }
 
-fn print_row(row: &Row) {
-    let torn = row.pairs[0];
-    print!("| {} ", row.name);
-    for pair in &row.pairs[1..] {
-        let net = pair.minus(torn);
-        print!("| {:.0} | {:.0} | {:.1} ", net.board, net.fast, net.ratio());
-    }
-    println!("| {:.0} | {:.0} |", torn.board, torn.fast);
+fn cells(pair: Pair) -> String {
+    format!("{:.0} | {:.0} | {:.1}", pair.board, pair.fast, pair.ratio())
 }

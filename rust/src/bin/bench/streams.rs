@@ -1,6 +1,6 @@
 //! The generator's streams: whole reports, and the judges alone.
 
-use crate::timing::{best, call, Pair, Row, TORN};
+use crate::timing::{self, call, Row, Times, TORN};
 use beside::board::{self, ANSWER};
 use beside::fast;
 use beside::generate::{self, Profile, Rng};
@@ -17,13 +17,13 @@ pub fn measure() -> Vec<Row> {
         let streams = streams(profile);
         Row {
             name: format!("{profile:?}"),
-            pairs: vec![reports(&streams), calls(&streams), torn_calls(&streams)],
+            times: vec![reports(&streams), calls(&streams), torn_calls(&streams)],
         }
     };
     Profile::ALL.map(row).into()
 }
 
-pub fn print(best: &[Row], worst: &[Row]) {
+pub fn print(rows: &[Row]) {
     println!("## Reports\n");
     println!("One call for {RECORDS} records, from the bytes to the text.\n");
     println!(
@@ -31,19 +31,19 @@ pub fn print(best: &[Row], worst: &[Row]) {
          Worst stack: board | Fast | Ratio |"
     );
     println!("|---|--:|--:|--:|--:|--:|--:|--:|--:|");
-    for (best, worst) in best.iter().zip(worst) {
-        let (pair, at_worst) = (best.pairs[0], worst.pairs[0]);
+    for row in rows {
+        let (best, worst) = (row.times[0].best(), row.times[0].worst());
         println!(
             "| {} | {:.0} | {:.0} | {:.1} | {:.0} | {:.0} | {:.0} | {:.0} | {:.1} |",
-            best.name,
-            pair.board,
-            pair.fast,
-            pair.ratio(),
-            1e9 / pair.board,
-            1e9 / pair.fast,
-            at_worst.board,
-            at_worst.fast,
-            at_worst.ratio()
+            row.name,
+            best.board,
+            best.fast,
+            best.ratio(),
+            1e9 / best.board,
+            1e9 / best.fast,
+            worst.board,
+            worst.fast,
+            worst.ratio()
         );
     }
     println!("\n## The judge alone\n");
@@ -53,8 +53,8 @@ pub fn print(best: &[Row], worst: &[Row]) {
     );
     println!("| Streams | Board, a call | Board, torn record | Difference | Fast | Ratio |");
     println!("|---|--:|--:|--:|--:|--:|");
-    for row in best {
-        let (call, torn) = (row.pairs[1], row.pairs[2]);
+    for row in rows {
+        let (call, torn) = (row.times[1].best(), row.times[2].best());
         let net = call.board - torn.board;
         println!(
             "| {} | {:.0} | {:.0} | {net:.0} | {:.0} | {:.1} |",
@@ -78,12 +78,12 @@ pub fn streams(profile: Profile) -> Vec<Vec<u8>> {
 }
 
 /// Per record of a report.
-fn reports(streams: &[Vec<u8>]) -> Pair {
+fn reports(streams: &[Vec<u8>]) -> Times {
     let longest = streams.iter().map(Vec::len).max().expect("streams");
     let mut board_text = vec![0; board::room(longest)];
     let mut fast_text = board_text.clone();
-    mean(streams.iter().map(|input| {
-        best(
+    mean(streams, |input| {
+        timing::measure(
             RECORDS,
             || {
                 black_box(board::report_into(black_box(input), &mut board_text));
@@ -93,30 +93,30 @@ fn reports(streams: &[Vec<u8>]) -> Pair {
                 black_box(lines_into(black_box(input), &mut fast_text, judge));
             },
         )
-    }))
+    })
 }
 
 /// Per record that is judged by a call of its own.
-fn calls(streams: &[Vec<u8>]) -> Pair {
-    let calls = |input: &Vec<u8>| {
-        best(
+fn calls(streams: &[Vec<u8>]) -> Times {
+    mean(streams, |input| {
+        timing::measure(
             RECORDS,
             || by_board(black_box(input)),
             || {
                 black_box(by_fast(black_box(input)));
             },
         )
-    };
-    mean(streams.iter().map(calls))
+    })
 }
 
-fn mean(pairs: impl Iterator<Item = Pair>) -> Pair {
-    let pairs: Vec<Pair> = pairs.collect();
-    let sum = |of: fn(&Pair) -> f64| pairs.iter().map(of).sum::<f64>();
-    Pair {
-        board: sum(|pair| pair.board) / pairs.len() as f64,
-        fast: sum(|pair| pair.fast) / pairs.len() as f64,
-    }
+/// Per call with a torn record, on the policies that the streams end with.
+fn torn_calls(streams: &[Vec<u8>]) -> Times {
+    mean(streams, |input| call(&by_fast(input), &TORN, 1))
+}
+
+fn mean(streams: &[Vec<u8>], measure: impl FnMut(&Vec<u8>) -> Times) -> Times {
+    let times: Vec<Times> = streams.iter().map(measure).collect();
+    Times::mean(&times)
 }
 
 /// Two buffers take turns: the answer to one record is the policy for the next.
@@ -139,9 +139,4 @@ fn by_fast(input: &[u8]) -> Sheet {
         black_box(fast::judge_in_place(&mut sheet, record));
     }
     sheet
-}
-
-/// Per call with a torn record, on the policies that the streams end with.
-fn torn_calls(streams: &[Vec<u8>]) -> Pair {
-    mean(streams.iter().map(|input| call(&by_fast(input), &TORN, 1)))
 }

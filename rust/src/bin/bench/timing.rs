@@ -3,11 +3,16 @@
 use beside::board::{self, ANSWER};
 use beside::fast;
 use beside::sheet::Sheet;
+use std::array::from_fn;
 use std::hint::black_box;
 use std::time::Instant;
 
-/// How often each of the two has its turn in one pass; the quickest turn counts.
-pub const ROUNDS: usize = 15;
+/// How often each of the two has its turn at each shift of the stack in one pass.
+pub const ROUNDS: usize = 5;
+
+/// Turns are taken with the stack moved by 0, 16, 32 and 48 bytes: how the judges' tables lie in
+/// the lines of the cache changes their speed, and differs from run to run.
+pub const SHIFTS: usize = 4;
 
 /// Calls in one turn on a single record: short turns, so that some are undisturbed.
 const CALLS: usize = 200;
@@ -23,6 +28,11 @@ pub struct Pair {
 }
 
 impl Pair {
+    const NEVER: Pair = Pair {
+        board: f64::INFINITY,
+        fast: f64::INFINITY,
+    };
+
     /// How many times as long as the fast judge the board takes.
     pub fn ratio(self) -> f64 {
         self.board / self.fast
@@ -36,72 +46,112 @@ impl Pair {
         }
     }
 
-    /// The shorter time of each.
-    pub fn min(self, other: Pair) -> Pair {
+    fn each(self, other: Pair, which: fn(f64, f64) -> f64) -> Pair {
         Pair {
-            board: self.board.min(other.board),
-            fast: self.fast.min(other.fast),
+            board: which(self.board, other.board),
+            fast: which(self.fast, other.fast),
+        }
+    }
+}
+
+/// The shortest times at each shift of the stack.
+#[derive(Clone, Copy)]
+pub struct Times([Pair; SHIFTS]);
+
+impl Times {
+    /// At the shift that suits each best.
+    pub fn best(&self) -> Pair {
+        self.0
+            .into_iter()
+            .reduce(|a, b| a.each(b, f64::min))
+            .expect("four shifts")
+    }
+
+    /// At the shift that suits each least.
+    pub fn worst(&self) -> Pair {
+        self.0
+            .into_iter()
+            .reduce(|a, b| a.each(b, f64::max))
+            .expect("four shifts")
+    }
+
+    fn keep_shorter(&mut self, other: Times) {
+        for (mine, others) in self.0.iter_mut().zip(other.0) {
+            *mine = mine.each(others, f64::min);
         }
     }
 
-    /// The longer time of each.
-    pub fn max(self, other: Pair) -> Pair {
-        Pair {
-            board: self.board.max(other.board),
-            fast: self.fast.max(other.fast),
-        }
+    pub fn mean(many: &[Times]) -> Times {
+        let mean = |shift: usize, of: fn(Pair) -> f64| {
+            many.iter().map(|times| of(times.0[shift])).sum::<f64>() / many.len() as f64
+        };
+        Times(from_fn(|shift| Pair {
+            board: mean(shift, |pair| pair.board),
+            fast: mean(shift, |pair| pair.fast),
+        }))
     }
 }
 
 /// One row of a table: its name, and what was measured for it.
-#[derive(Clone)]
 pub struct Row {
     pub name: String,
-    pub pairs: Vec<Pair>,
+    pub times: Vec<Times>,
 }
 
-/// Of two measurements of the same rows, keeps for each pair what `which` says.
-pub fn keep(which: fn(Pair, Pair) -> Pair, rows: &mut [Row], others: &[Row]) {
-    for (row, other) in rows.iter_mut().zip(others) {
-        assert_eq!(row.name, other.name);
-        for (pair, other) in row.pairs.iter_mut().zip(&other.pairs) {
-            *pair = which(*pair, *other);
+/// Of two measurements of the same rows, keeps the shorter times.
+pub fn keep_shorter(rows: &mut [Row], again: Vec<Row>) {
+    for (row, again) in rows.iter_mut().zip(again) {
+        assert_eq!(row.name, again.name);
+        for (times, again) in row.times.iter_mut().zip(again.times) {
+            times.keep_shorter(again);
         }
     }
 }
 
 /// Nanoseconds of one of `count` things that each of these calls does, in their quickest turns.
-pub fn best(count: usize, mut board: impl FnMut(), mut fast: impl FnMut()) -> Pair {
-    let mut best = Pair {
-        board: f64::INFINITY,
-        fast: f64::INFINITY,
-    };
+pub fn measure(count: usize, mut board: impl FnMut(), mut fast: impl FnMut()) -> Times {
+    let mut times = Times([Pair::NEVER; SHIFTS]);
     for _ in 0..ROUNDS {
-        best = best.min(Pair {
-            board: nanoseconds(&mut board) / count as f64,
-            fast: nanoseconds(&mut fast) / count as f64,
-        });
+        times.keep_shorter(Times(from_fn(|shift| Pair {
+            board: shifted(shift, &mut board) / count as f64,
+            fast: shifted(shift, &mut fast) / count as f64,
+        })));
     }
-    best
+    times
 }
 
-fn nanoseconds(call: &mut impl FnMut()) -> f64 {
+fn shifted(shift: usize, call: &mut dyn FnMut()) -> f64 {
+    match shift {
+        0 => nanoseconds::<16>(call),
+        1 => nanoseconds::<32>(call),
+        2 => nanoseconds::<48>(call),
+        _ => nanoseconds::<64>(call),
+    }
+}
+
+/// The time of a call below so many bytes of the stack.
+#[inline(never)]
+fn nanoseconds<const BYTES: usize>(call: &mut dyn FnMut()) -> f64 {
+    let room = [0u8; BYTES];
+    black_box(&room);
     let start = Instant::now();
     call();
-    start.elapsed().as_nanos() as f64
+    let time = start.elapsed().as_nanos() as f64;
+    black_box(&room);
+    time
 }
 
 /// Both judges on one record and the same policy over and over, each call with a whole policy
 /// in and a whole policy out: for the board a picture is read and one is written, for the fast
 /// judge the sheet is copied. Both have to give this code.
-pub fn call(sheet: &Sheet, record: &[u8], code: u8) -> Pair {
+pub fn call(sheet: &Sheet, record: &[u8], code: u8) -> Times {
     let picture = sheet.picture();
     let answer = board::judge(&picture, record);
     assert_eq!(answer.code, code, "{record:?}");
     assert_eq!(board::Answer::from(fast::judge(sheet, record)), answer);
 
     let mut out = [0; ANSWER];
-    best(
+    measure(
         CALLS,
         || {
             for _ in 0..CALLS {
