@@ -7,6 +7,7 @@
 //! counts. So noise hits both, and some turns are undisturbed.
 
 mod club;
+mod dearest;
 mod growth;
 mod kinds;
 mod stack;
@@ -33,5 +34,6 @@ fn main() {
     streams::print(&streams);
     kinds::print(&kinds);
     growth::print(&growth);
+    dearest::print();
     stack::print();
 }
