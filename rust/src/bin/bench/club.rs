@@ -179,7 +179,8 @@ pub fn requests(size: Size) -> [Request; 8] {
     ]
 }
 
-fn record(kind: u8, sender: u8, fields: &[u8]) -> Vec<u8> {
+/// A record of this kind: the sender and the fields behind him.
+pub fn record(kind: u8, sender: u8, fields: &[u8]) -> Vec<u8> {
     let mut record = vec![5 + fields.len() as u8, 0, kind, 0, sender];
     record.extend(fields);
     record
