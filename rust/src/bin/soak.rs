@@ -2,6 +2,9 @@
 //!
 //!     cargo run --release --bin soak -- SECONDS SEED
 //!
+//! The seconds are those of the processor that it has worked, so that time in which it waits or
+//! is stopped doesn't count.
+//!
 //! Streams from the founding are compared as whole reports, whole, torn and with bytes changed,
 //! and record by record; single requests on sheets of any value. A difference is printed with
 //! the shortest list of records that shows it, and ends the run with status 1. At the end it
@@ -40,25 +43,50 @@ fn soak(time: Duration, seed: u64) -> Result<(), String> {
     let mut rng = Rng::new(seed);
     let mut done = Done::default();
     let mut told = 0;
-    while start.elapsed() < time {
+    while worked() < time {
         for profile in Profile::ALL {
             done.stream(&mut rng, profile)?;
         }
         for _ in 0..SHEETS_PER_TURN {
             done.requests(&mut rng)?;
         }
-        if start.elapsed().as_secs() / 300 > told {
-            told = start.elapsed().as_secs() / 300;
+        if worked().as_secs() / 300 > told {
+            told = worked().as_secs() / 300;
             println!("{} s: {}, no difference", 300 * told, done.so_far());
         }
     }
-    let seconds = start.elapsed().as_secs();
-    println!("seed {seed}, {seconds} s, no difference between the board, plain and fast");
+    println!(
+        "seed {seed}, {} s of work in {} s, no difference between the board, plain and fast",
+        worked().as_secs(),
+        start.elapsed().as_secs()
+    );
     println!("{}", done.so_far());
     println!("streams: {}", done.shapes);
     println!("stream records by kind and code\n{}", done.on_streams);
     println!("single requests by kind and code\n{}", done.on_sheets);
     Ok(())
+}
+
+/// The time that the processor has worked for this program.
+fn worked() -> Duration {
+    #[repr(C)]
+    struct Time {
+        seconds: i64,
+        nanoseconds: i64,
+    }
+    extern "C" {
+        fn clock_gettime(clock: i32, time: *mut Time) -> i32;
+    }
+    /// Linux's `CLOCK_PROCESS_CPUTIME_ID`.
+    const OF_THIS_PROCESS: i32 = 2;
+    let mut time = Time {
+        seconds: 0,
+        nanoseconds: 0,
+    };
+    // SAFETY: on 64-bit Linux a `timespec` is two 64-bit numbers, and this one is lent for the call.
+    let failed = unsafe { clock_gettime(OF_THIS_PROCESS, &mut time) };
+    assert_eq!(failed, 0, "the clock of the process is there");
+    Duration::new(time.seconds as u64, time.nanoseconds as u32)
 }
 
 /// What has been compared.

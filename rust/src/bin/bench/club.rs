@@ -141,41 +141,46 @@ fn add_rules(rng: &mut Rng, sheet: &mut Sheet, rules: usize, groups: &[u8]) {
     sheet.rules[rules - 1] = rule(USERS, TARGETS, if rules == 1 { 255 } else { last });
 }
 
-/// A record of a kind and what sort of answer it gets.
+/// The kinds, 1 to 8.
+pub const NAMES: [&str; 8] = [
+    "MAKE", "PUT", "TAKE", "APPOINT", "DISMISS", "GRANT", "WITHDRAW", "USE",
+];
+
+/// For one kind a record that is done, and the same from one who has no authority for it.
 pub struct Request {
     pub name: &'static str,
     pub done: Vec<u8>,
     pub refused: Vec<u8>,
 }
 
-/// For each kind a record that is done, and the same from one who has no authority for it.
+/// A request of each kind, for a club of this size.
 pub fn requests(size: Size) -> [Request; 8] {
     let object = size.objects as u8;
     let warrant = size.warrants as u8;
     let rule = size.rules as u8;
-    let request = |name, kind, sender, fields: &[u8]| Request {
-        name,
+    let request = |kind: u8, sender, fields: &[u8]| Request {
+        name: NAMES[kind as usize - 1],
         done: record(kind, sender, fields),
         refused: record(kind, OUTSIDER, fields),
     };
     [
-        request("MAKE", 1, RUNNER, &[object, MEMBER, USERS]),
-        request("PUT", 2, RUNNER, &[TARGETS, USERS]),
-        request("TAKE", 3, RUNNER, &[LISTENER, ROOT]),
+        request(1, RUNNER, &[object, MEMBER, USERS]),
+        request(2, RUNNER, &[TARGETS, USERS]),
+        request(3, RUNNER, &[LISTENER, ROOT]),
         request(
-            "APPOINT",
             4,
             RUNNER,
             &[warrant, ADMINISTRATOR, OUTSIDER, USERS, TARGETS],
         ),
-        request("DISMISS", 5, FOUNDER, &[warrant - 1]),
-        request("GRANT", 6, RUNNER, &[rule, USERS, TARGETS, 6]),
-        request("WITHDRAW", 7, RUNNER, &[rule - 1]),
-        request("USE", 8, LISTENER, &[RADIO, LAST_OPERATION]),
+        request(5, FOUNDER, &[warrant - 1]),
+        request(6, RUNNER, &[rule, USERS, TARGETS, 6]),
+        request(7, RUNNER, &[rule - 1]),
+        request(8, LISTENER, &[RADIO, LAST_OPERATION]),
     ]
 }
 
-fn record(kind: u8, sender: u8, fields: &[u8]) -> Vec<u8> {
+/// A record of this kind: the sender and the fields behind him.
+pub fn record(kind: u8, sender: u8, fields: &[u8]) -> Vec<u8> {
     let mut record = vec![5 + fields.len() as u8, 0, kind, 0, sender];
     record.extend(fields);
     record

@@ -55,12 +55,7 @@ pub fn print(rows: &[Row]) {
     println!("| In use | USE | PUT | GRANT | DISMISS |");
     println!("|---|--:|--:|--:|--:|");
     for row in rows {
-        print!("| {} ", row.name);
-        for times in &row.times[1..] {
-            let net = times.best().minus(row.times[0].best());
-            print!("| {:.0} / {:.0} ", net.board, net.fast);
-        }
-        println!("|");
+        row.print_net();
     }
     println!();
 }

@@ -8,6 +8,7 @@
 
 mod club;
 mod growth;
+mod heavy;
 mod kinds;
 mod stack;
 mod streams;
@@ -18,14 +19,19 @@ use timing::{keep_shorter, ROUNDS, SHIFTS};
 const PASSES: usize = 15;
 
 fn main() {
-    let tables = [streams::measure, kinds::measure, growth::measure];
+    let tables = [
+        streams::measure,
+        kinds::measure,
+        growth::measure,
+        heavy::measure,
+    ];
     let mut shortest = tables.map(|measure| measure());
     for _ in 1..PASSES {
         for (rows, measure) in shortest.iter_mut().zip(tables) {
             keep_shorter(rows, measure());
         }
     }
-    let [streams, kinds, growth] = shortest;
+    let [streams, kinds, growth, heavy] = shortest;
     println!(
         "Nanoseconds, the best of {} turns.\n",
         PASSES * ROUNDS * SHIFTS
@@ -33,5 +39,6 @@ fn main() {
     streams::print(&streams);
     kinds::print(&kinds);
     growth::print(&growth);
+    heavy::print(&heavy);
     stack::print();
 }

@@ -98,6 +98,18 @@ pub struct Row {
     pub times: Vec<Times>,
 }
 
+impl Row {
+    /// Prints the row of a table, board / fast, without the time of the first record.
+    pub fn print_net(&self) {
+        print!("| {} ", self.name);
+        for times in &self.times[1..] {
+            let net = times.best().minus(self.times[0].best());
+            print!("| {:.0} / {:.0} ", net.board, net.fast);
+        }
+        println!("|");
+    }
+}
+
 /// Of two measurements of the same rows, keeps the shorter times.
 pub fn keep_shorter(rows: &mut [Row], again: Vec<Row>) {
     for (row, again) in rows.iter_mut().zip(again) {
