@@ -7,7 +7,8 @@ use native.Mathlib.Numerals.{add-one}
 use native.Mathlib.Omega.{arith}
 use lib.ListN.{length, drop, set, getD, length-set, length-append, drop-of-length-le}
 use lib.Seq.{drop-cons, sets, sets-eq, length-sets}
-use Rattle.export.specs.Picture.{Bytes, flat, bytesOf}
+use Rattle.list.specs.Runs.{Bytes}
+use Rattle.export.specs.Picture.{flat, bytesOf}
 
 -- Bytes stored, and others behind them, are all stored.
 pub sets-append : (l : Bytes) (n : ℕ) (a b : Bytes) → sets l n (a ++ b) ≡ sets (sets l n a) (n + length a) b

@@ -15,10 +15,7 @@ use Rattle.reach.specs.Tests.{_⇒_∥_}
 use Rattle.frame.specs.Fields.{byte}
 use Rattle.rules.specs.declared.Answer.{Answer}
 use Rattle.rules.specs.Judging.{codeOf, citedOf, judge}
-
--- A byte string.
-abbrev pub Bytes : Type 0
-Bytes = List ℕ
+use Rattle.list.specs.Runs.{Bytes}
 
 -- ---- The policy of a picture
 

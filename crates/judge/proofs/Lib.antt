@@ -1,9 +1,2 @@
--- The laws by which the judge's code follows the rules, each file under its subject.
-pub mod Staged
-pub mod Finishing
-pub mod Spreading
-pub mod News
-pub mod Surveyed
-pub mod Gaining
-pub mod Growing
-pub mod Handing
+-- The law by which the judge's code follows the rules: the order of the checks.
+pub mod Ordered

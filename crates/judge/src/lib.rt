@@ -1,35 +1,49 @@
 // The judge: one request on one policy, answered as the crate `rules` says.
 ghost use mathlib.Core.Path.{_≡_};
 ghost use Rattle.rules.specs.Judging.{judge, OneAnswer};
+ghost use Rattle.judge.specs.Answering.{answered};
 
-mod checks;
-mod gains;
-mod kinds;
+mod doing;
 mod numbers;
-mod records;
-mod rows;
 
+use checks::absent;
+use checks::already_so;
 use checks::misfit;
+use checks::no_authority;
+use checks::off_the_sheet;
+use checks::orphan;
+use checks::permitting_rule;
+use checks::place_of;
+use checks::request_of;
+use checks::stranger;
 use checks::torn;
 use checks::unknown;
+use checks::wrong_sort;
+use doing::after;
+use doing::done;
 use frame::byte;
-use kinds::answer;
-use kinds::decide;
+use gains::hand_over;
+use gains::own_gain;
+use gains::rows_for;
 pub use numbers::cited_of;
 pub use numbers::code_of;
 use reach::Policy;
-use records::request_of;
+use reach::appointment_at;
+use reach::masks_of;
+use reach::rule_at;
 use rules::Answer;
 use rules::Verdict;
 
-// A permission that is gained, target and operation, or none.
-pub enum Gain {
-    Permission(u8, u8),
-    Nothing,
+// A policy, and a verdict on it.
+fn answer(p: Policy, verdict: Verdict) -> Answer
+    ensures { λ r. ⌜ r ≡ answered p verdict ⌝ }
+{
+    Answer { policy: p, verdict }
 }
 
 // The judge: the answer to one record on one policy, for every policy and all bytes. The first clause is demand 2, every answer and
-// every policy after it as the rules have it; the second is demand 1, one numbered answer, and a refusal that changes nothing.
+// every policy after it as the rules have it; the second is demand 1, one numbered answer, and a refusal that changes nothing. This is
+// the one place that knows the order of the checks.
 pub fn judge(p: Policy, bytes: &[u8]) -> Answer
     ensures { λ r. ⌜ r ≡ judge p (now (bytes .entry)) ⌝ }
     ensures { λ r. ⌜ OneAnswer p r ⌝ }
@@ -43,9 +57,44 @@ pub fn judge(p: Policy, bytes: &[u8]) -> Answer
     if misfit(bytes) {
         return answer(p, Verdict::Misfit);
     }
+    let sorts = p.sorts;
+    let m = masks_of(sorts);
     let u = byte(bytes, 4);
-    if (63 < u) | !p.is_user(u) {
+    if stranger(m, u) {
         return answer(p, Verdict::Stranger);
     }
-    decide(p, u, request_of(bytes))
+    let q = request_of(bytes);
+    if off_the_sheet(q) {
+        return answer(p, Verdict::OffTheSheet);
+    }
+    let appointments = p.appointments;
+    let rules = p.rules;
+    let w = appointment_at(appointments, place_of(q));
+    let rule = rule_at(rules, place_of(q));
+    if absent(m, w, rule, q) {
+        return answer(p, Verdict::Absent);
+    }
+    if wrong_sort(m, q) {
+        return answer(p, Verdict::WrongSort);
+    }
+    if already_so(&p.members, m, w, rule, q) {
+        return answer(p, Verdict::AlreadySo);
+    }
+    let by = permitting_rule(&p.members, m, rules, u, q);
+    if no_authority(&p.members, m, appointments, w, rule, by, u, q) {
+        return answer(p, Verdict::NoAuthority);
+    }
+    let rows = rows_for(&p.members, m, q);
+    if own_gain(&p.members, m, &rows, appointments, rules, u, q) {
+        return answer(p, Verdict::OwnGain);
+    }
+    if hand_over(&rows, m, appointments, u, q) {
+        return answer(p, Verdict::HandOver);
+    }
+    let n = after(p, q);
+    let left = n.appointments;
+    if orphan(&n.members, m, left, q) {
+        return answer(p, Verdict::Orphan);
+    }
+    answer(n, done(by))
 }

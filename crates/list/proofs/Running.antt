@@ -2,12 +2,12 @@
 -- policy. Each turn moves one request over; at the end none is to come.
 use mathlib.Core.Path.{_≡_, refl, sym, ap, _∙_}
 use mathlib.Core.Bool.{Bool, true, false, _&&_}
-use mathlib.Core.List.{List, [], _∷_, _++_, append-assoc, append-nil}
+use mathlib.Core.List.{List, [], _∷_, _++_, append-assoc, append-nil, map-append}
 use Prim.Native.Nat.{ℕ, suc, _+_, _≤_, _<_, zero-le}
 use native.Mathlib.Numerals.{add-one}
 use native.Mathlib.Omega.{arith}
 use lib.Dec.{leb}
-use lib.ListN.{length, drop, set, getD, length-append, length-drop, drop-of-length-le}
+use lib.ListN.{length, drop, set, getD, length-append, length-map, length-drop, drop-of-length-le}
 use lib.Seq.{drop-cons, set-append-seam, append-snoc}
 use borrow.Author.Tests.{le-leb, lt-leb}
 use Rattle.reach.specs.declared.Policy.{Policy}
@@ -40,22 +40,6 @@ filled-next bytes buffer₀ byte e count low = rw (e, sym count) (over-next byte
 over-length : (bytes buffer : Bytes) → length bytes ≤ length buffer → length (over bytes buffer) ≡ length buffer
 over-length bytes buffer low = simp (length-append, length-drop) (omega arith)
 
-codes-append : (l : List (ℕ × ℕ)) (code cited : ℕ) → codesOf (l ++ ((code, cited) ∷ [])) ≡ codesOf l ++ (code ∷ [])
-codes-append [] code cited = refl
-codes-append ((c, d) ∷ rest) code cited = ap (λ (l : Bytes). c ∷ l) (codes-append rest code cited)
-
-cited-append : (l : List (ℕ × ℕ)) (code cited : ℕ) → citesOf (l ++ ((code, cited) ∷ [])) ≡ citesOf l ++ (cited ∷ [])
-cited-append [] code cited = refl
-cited-append ((c, d) ∷ rest) code cited = ap (λ (l : Bytes). d ∷ l) (cited-append rest code cited)
-
-codes-length : (l : List (ℕ × ℕ)) → length (codesOf l) ≡ length l
-codes-length [] = refl
-codes-length ((c, d) ∷ rest) = ap suc (codes-length rest)
-
-cited-length : (l : List (ℕ × ℕ)) → length (citesOf l) ≡ length l
-cited-length [] = refl
-cited-length ((c, d) ∷ rest) = ap suc (cited-length rest)
-
 -- ---- The loop
 
 module _ (b ends codes₀ cited₀ : Bytes) (first : Policy) where
@@ -87,12 +71,12 @@ module _ (b ends codes₀ cited₀ : Bytes) (first : Policy) where
   pub running-codes : {codes cited : Bytes} {p : Policy} {start i : ℕ} → Running codes cited p start i → length codes ≡ length codes₀
   running-codes s =
       ap length (s .codes-filled)
-      ∙ over-length (codesOf (s .so-far)) codes₀ (omega (arith, codes-length (s .so-far), s .count, s .within, s .codes-room))
+      ∙ over-length (codesOf (s .so-far)) codes₀ (omega (arith, length-map (s .so-far) (λ (w : ℕ × ℕ). w .0), s .count, s .within, s .codes-room))
 
   pub running-cited : {codes cited : Bytes} {p : Policy} {start i : ℕ} → Running codes cited p start i → length cited ≡ length cited₀
   running-cited s =
       ap length (s .cited-filled)
-      ∙ over-length (citesOf (s .so-far)) cited₀ (omega (arith, cited-length (s .so-far), s .count, s .within, s .cited-room))
+      ∙ over-length (citesOf (s .so-far)) cited₀ (omega (arith, length-map (s .so-far) (λ (w : ℕ × ℕ). w .1), s .count, s .within, s .cited-room))
 
   pub running-end : {codes cited : Bytes} {p : Policy} {start i : ℕ} → Running codes cited p start i → length ends ≤ i
       → RunInto first (handed b ends) codes₀ cited₀ codes cited (record { ran = true; policy = p })
@@ -128,11 +112,11 @@ module _ (b ends codes₀ cited₀ : Bytes) (first : Policy) where
           so-far = s .so-far ++ ((code, cite) ∷ []);
           count = simp (length-append, s .count);
           codes-filled =
-              filled-next (codesOf (s .so-far)) codes₀ code (s .codes-filled) (codes-length (s .so-far) ∙ s .count) (omega (arith, s .codes-room))
-              ∙ ap (λ (l : Bytes). over l codes₀) (sym (codes-append (s .so-far) code cite));
+              filled-next (codesOf (s .so-far)) codes₀ code (s .codes-filled) (length-map (s .so-far) _ ∙ s .count) (omega (arith, s .codes-room))
+              ∙ ap (λ (l : Bytes). over l codes₀) (sym (map-append _ (s .so-far) ((code, cite) ∷ [])));
           cited-filled =
-              filled-next (citesOf (s .so-far)) cited₀ cite (s .cited-filled) (cited-length (s .so-far) ∙ s .count) (omega (arith, s .cited-room))
-              ∙ ap (λ (l : Bytes). over l cited₀) (sym (cited-append (s .so-far) code cite));
+              filled-next (citesOf (s .so-far)) cited₀ cite (s .cited-filled) (length-map (s .so-far) _ ∙ s .count) (omega (arith, s .cited-room))
+              ∙ ap (λ (l : Bytes). over l cited₀) (sym (map-append _ (s .so-far) ((code, cite) ∷ [])));
           policy-to-come = rw (add-one, e) (ap (run p) (sym to-come) ∙ s .policy-to-come);
           answers-to-come =
               rw (add-one, f, g, e, append-assoc)

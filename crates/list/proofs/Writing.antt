@@ -149,6 +149,3 @@ printed-all {a} {w} {b} {n} p room =
 -- The buffer keeps its length, and what is counted lies in it.
 pub printed-length : {a w b : Bytes} {n : ℕ} → Printed a w b n → length b ≡ length a
 printed-length {a} {w} p = ap length (p .bytes) ∙ simp (length-append, length-take, length-drop) (omega arith)
-
-pub printed-within : {a w b : Bytes} {n : ℕ} → Printed a w b n → n ≤ length b
-printed-within p = omega (arith, p .count, printed-length p)

@@ -1,7 +1,7 @@
 -- What a list that is run leaves: the last policy, and in two lent buffers the code and the cited rule of each request.
 use mathlib.Core.Path.{_≡_}
 use mathlib.Core.Bool.{Bool, true, false, _&&_}
-use mathlib.Core.List.{List, [], _∷_, _++_}
+use mathlib.Core.List.{List, _++_, map}
 use Prim.Native.Nat.{ℕ}
 use lib.Dec.{leb}
 use lib.ListN.{length, drop}
@@ -13,12 +13,10 @@ use Rattle.list.specs.Runs.{Bytes, run}
 
 -- The codes of the answers, and what they cite, in their order.
 abbrev pub codesOf : List (ℕ × ℕ) → Bytes
-codesOf [] = []
-codesOf ((code, cited) ∷ rest) = code ∷ codesOf rest
+codesOf l = map (λ (w : ℕ × ℕ). w .0) l
 
 abbrev pub citesOf : List (ℕ × ℕ) → Bytes
-citesOf [] = []
-citesOf ((code, cited) ∷ rest) = cited ∷ citesOf rest
+citesOf l = map (λ (w : ℕ × ℕ). w .1) l
 
 -- A buffer with bytes written over its first ones; the others are as they were.
 abbrev pub over : Bytes → Bytes → Bytes

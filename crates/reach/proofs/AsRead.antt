@@ -232,3 +232,16 @@ put-rules p x g = either (onTable x g)
     either : (t : Bool) → (t ⇒ withMembers p (addTo (p .members) x g) ∥ p) .rules ≡ p .rules
     either true = refl
     either false = refl
+
+-- TAKE and DISMISS leave the sorts as they are.
+pub taken-sorts : (p : Policy) (x g : ℕ) → taken p x g .sorts ≡ p .sorts
+unfolding taken
+taken-sorts p x g = either (onTable x g)
+  where
+    either : (t : Bool) → (t ⇒ withMembers p (removeFrom (p .members) x g) ∥ p) .sorts ≡ p .sorts
+    either true = refl
+    either false = refl
+
+pub appointed-sorts : (p : Policy) (i : ℕ) (w : Appointment) → appointed p i w .sorts ≡ p .sorts
+unfolding appointed
+appointed-sorts p i w = refl

@@ -2,7 +2,8 @@
 use mathlib.Core.Path.{_≡_, refl, sym, _∙_, subst}
 use mathlib.Core.Bool.{Bool, true, false, not, _&&_, true≢false, and-eq-true-iff}
 use mathlib.Core.Logic.{_⊎_, inl, inr, ⊎-elim}
-use Prim.Native.Nat.{ℕ, _-_, _^_, _<_}
+use Prim.Native.Nat.{ℕ, _-_, _^_, _≤_, _<_}
+use native.Mathlib.Nat.{le-refl}
 use native.Mathlib.Omega.{arith}
 use lib.Bits.{bitAnd}
 use lib.Dec.{eqb, ltb}
@@ -12,9 +13,10 @@ use Rattle.reach.specs.Words.{bit, has, SetOf}
 use Rattle.reach.specs.Tests.{some, Some, Decides, _⇒_∥_, lowest}
 use Rattle.reach.specs.Tables.{sort, appointment, rule, view}
 use Rattle.reach.specs.Reach.{InUse, User, Target, isUser, isTarget}
-use Rattle.reach.specs.Privileges.{HoldsBy, Holds, AdministersBy, Administers, PermitsBy, Permitted, Orphan, owner, administrator, holdsBy, holds, administersBy, administers, permitsBy, askable, permitted, permitting, orphaned}
+use Rattle.reach.specs.Privileges.{HoldsBy, Holds, AdministersBy, Administers, PermitsBy, Permitted, Orphan, administrator, holdsBy, holds, administersBy, administers, permitsBy, askable, permitted, permitting, orphaned}
 use Rattle.reach.proofs.Testing.{decides-as, decides-same, decides-and, decides-not, decides-some, decides-eqb, decides-ltb, decides-true, some-map, lowest-none, lowest-found, LowestAt, lowest-cases, fails, some-found}
-use Rattle.reach.proofs.WordSets.{set-mask, set-not, decides-nonempty, has-is}
+use Rattle.reach.proofs.WordSets.{set-mask, set-not, set-empty, decides-nonempty, has-is}
+use Rattle.reach.proofs.Places.{OwnedAt}
 use Rattle.reach.proofs.Chains.{in-use-below, decides-in-use, under-decides}
 
 -- What decides a user and an object: the sort that counts.
@@ -98,38 +100,50 @@ orphaned-decides p =
 
 -- ---- Two answers of the code, from what it has found out
 
--- A user who owns x does so by the place of some appointment that he holds.
-pub orphan-decides : (p : Policy) {objects owned : ℕ} → SetOf objects (InUse (view p))
-    → SetOf owned (λ x. Some 32 (λ i. User (view p) (appointment p i .holder) × HoldsBy (view p) owner (appointment p i .holder) x i))
-    → not (eqb (bitAnd objects (2 ^ 64 - 1 - owned)) 0) ≡ orphaned p
-orphan-decides p {objects} {owned} o w =
-    decides-same
-    _
-    _
-    (decides-as
-    (decides-nonempty (set-mask objects (set-not w)))
-    (some-map
-    (λ x f.
-    record {
-      object = o .only x (f .0);
-      nobody = λ u h.
-          f .1 .1
-          (some-map
-          (λ i b. (
-            subst (User (view p)) (sym (b .is-holder)) (h .user),
-            record { is-kind = b .is-kind; is-holder = refl; covers = b .covers },
-          ))
-          (h .by));
-    }))
-    (some-map
-    (λ x f. (
-      o .all x (f .object),
-      (
-        in-use-below p x (f .object),
-        λ s. f .nobody (appointment p (s .place) .holder) (record { user = s .at .0; by = record { place = s .place; low = s .low; at = s .at .1 } }),
-      ),
-    ))))
-    (orphaned-decides p)
+module _ (p : Policy) {objects : ℕ} (o : SetOf objects (InUse (view p))) where
+  outside : (n : ℕ) → n ≤ 32 → (x : ℕ) → Orphan (view p) x → (bit objects x ≡ 1) × ((x < 64) × (Some n (λ i. OwnedAt p i x) → ⊥))
+  outside n l x f = (
+    o .all x (f .object),
+    (
+      in-use-below p x (f .object),
+      λ s.
+          f .nobody (appointment p (s .place) .holder)
+          (record { user = s .at .0; by = record { place = s .place; low = omega (arith, s .low, l); at = s .at .1 } }),
+    ),
+  )
+
+  -- A user who owns x does so by the place of some appointment that he holds.
+  pub orphan-decides : {owned : ℕ} → SetOf owned (λ x. Some 32 (λ i. OwnedAt p i x))
+      → not (eqb (bitAnd objects (2 ^ 64 - 1 - owned)) 0) ≡ orphaned p
+  orphan-decides w =
+      decides-same
+      _
+      _
+      (decides-as
+      (decides-nonempty (set-mask objects (set-not w)))
+      (some-map
+      (λ x f.
+      record {
+        object = o .only x (f .0);
+        nobody = λ u h.
+            f .1 .1
+            (some-map
+            (λ i b. (
+              subst (User (view p)) (sym (b .is-holder)) (h .user),
+              record { is-kind = b .is-kind; is-holder = refl; covers = b .covers },
+            ))
+            (h .by));
+      }))
+      (some-map (outside 32 (le-refl 32))))
+      (orphaned-decides p)
+
+  -- The places below n are enough where they leave no object in use.
+  pub orphan-none : {owned : ℕ} (n : ℕ) → n ≤ 32 → SetOf owned (λ x. Some n (λ i. OwnedAt p i x))
+      → bitAnd objects (2 ^ 64 - 1 - owned) ≡ 0 → false ≡ orphaned p
+  orphan-none n l w z =
+      sym
+      (fails (orphaned p) (orphaned-decides p)
+      (λ s. set-empty (set-mask objects (set-not w)) z (s .place) (outside n l (s .place) (s .at))))
 
 module _ (p : Policy) (u k x : ℕ) where
   -- Tests of the sets of users and of targets are the rules' own.

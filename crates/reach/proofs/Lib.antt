@@ -12,7 +12,9 @@ pub mod Founding
 pub mod Carrying
 pub mod Appointing
 pub mod Chains
+pub mod Places
 pub mod Deciding
+pub mod Asking
 pub mod Seeking
 pub mod Closures
 pub mod Unions

@@ -1,5 +1,5 @@
--- Reach as an order: reflexive on the objects in use, transitive, between objects in use; and it goes from view to view with what
--- it is made of. By induction on the chain.
+-- Reach as an order: transitive, between objects in use; and it goes from view to view with what it is made of. By induction on the
+-- chain.
 use mathlib.Core.Path.{_≡_, refl, subst}
 use mathlib.Core.Logic.{_⊎_, inl, inr, ⊎-elim}
 use Prim.Native.Nat.{ℕ}
@@ -9,9 +9,6 @@ use Rattle.reach.specs.Reach.{InUse, Group, Direct, Under, itself, up}
 
 pub group-in-use : (v : View) (g : ℕ) → Group v g → InUse v g
 group-in-use v g e = omega (arith, e)
-
-pub under-refl : (v : View) (x : ℕ) → InUse v x → Under v x x
-under-refl v x i = itself i
 
 pub under-trans : {v : View} {x h g : ℕ} → Under v x h → Under v h g → Under v x g
 under-trans (itself i) r = r
@@ -25,10 +22,6 @@ under-lower (up d l) = d .object
 pub under-upper : {v : View} {x g : ℕ} → Under v x g → InUse v g
 under-upper (itself i) = i
 under-upper (up d l) = under-upper l
-
--- What is directly in a group is under it.
-pub under-of-direct : {v : View} {x g : ℕ} → Direct v x g → Under v x g
-under-of-direct {v} {g = g} d = up d (itself (group-in-use v g (d .group)))
 
 -- Under what is no group there is only itself.
 pub under-group : {v : View} {x g : ℕ} → Under v x g → (x ≡ g) ⊎ Group v g

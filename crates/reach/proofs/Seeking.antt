@@ -1,10 +1,14 @@
 -- The search for what is under g. What is found is under g, g is found, and all that is directly in a group that is done is found;
 -- so once no group is left to do, all that is under g is found, by induction on its chain. No chain is counted.
-use mathlib.Core.Path.{_≡_, refl, sym, subst}
+use mathlib.Core.Path.{_≡_, refl, sym, ap, _∙_, subst}
+use mathlib.Core.List.{List}
 use mathlib.Core.Logic.{_⊎_, inl, inr, ⊎-elim}
 use Prim.Native.Nat.{ℕ, _-_, _*_, _%_, _^_, _<_}
+use native.Mathlib.Decide.{decLt}
+use native.Mathlib.Omega.{arith}
 use lib.Bits.{bitAnd, bitOr}
 use lib.Dec.{lit<}
+use lib.Pow.{ones-sub-lt}
 use lib.ListN.{getD}
 use borrow.Author.Tests.{eqb-true, eq-eqb}
 use Rattle.reach.specs.declared.Policy.{Policy}
@@ -12,9 +16,9 @@ use Rattle.reach.specs.declared.Masks.{Masks}
 use Rattle.reach.specs.Words.{bit, has, SetOf}
 use Rattle.reach.specs.Tables.{stored, view}
 use Rattle.reach.specs.Reach.{InUse, Group, Direct, Under, itself, up}
-use Rattle.reach.specs.Surveys.{MasksOf}
-use Rattle.reach.proofs.Bits.{bit-two, bit-clash, bit-none, or-grows}
-use Rattle.reach.proofs.WordSets.{set-bits, set-as, set-or, set-mask, set-not, set-one, set-empty}
+use Rattle.reach.specs.Surveys.{MasksOf, Lent}
+use Rattle.reach.proofs.Bits.{bit-le, bit-two, bit-clash, bit-zero, bit-none, bit-or, bit-not, or-grows}
+use Rattle.reach.proofs.WordSets.{set-bits, set-as, set-or, set-mask, set-not, set-one, set-below, set-empty}
 use Rattle.reach.proofs.Reaching.{group-in-use, under-trans}
 use Rattle.reach.proofs.Chains.{in-use-below}
 
@@ -30,6 +34,12 @@ pub row-of-direct : (p : Policy) (x h : ℕ) → Direct (view p) x h → InRow p
 unfolding stored has
 row-of-direct p x h d = (eqb-true _ _ (d .is-stored), d .object)
 
+-- The row, as it is lent.
+pub lent-row : {p : Policy} {members : List ℕ} {m : Masks} → Lent p members m → (h : ℕ)
+    → SetOf (bitAnd (getD members h 0) (m .objects)) (InRow p h)
+lent-row {p} {m = m} k h =
+    subst (λ (t : List ℕ). SetOf (bitAnd (getD t h 0) (m .objects)) (InRow p h)) (k .rows) (set-mask _ (k .masks .objects))
+
 -- What is known at the loop's head. A set that is done may have what is no group.
 pub record Seeking (p : Policy) (g found done todo : ℕ) : Type 0 where
   pub found-word : found < 2 ^ 64
@@ -39,15 +49,52 @@ pub record Seeking (p : Policy) (g found done todo : ℕ) : Type 0 where
   pub closed : (h x : ℕ) → bit done h ≡ 1 → Direct (view p) x h → bit found x ≡ 1
   pub left : SetOf todo (λ x. ((bit found x ≡ 1) × Group (view p) x) × ((x < 64) × (bit done x ≡ 1 → ⊥)))
 
--- A turn keeps what is known, and does one group more.
-pub record Turn (p : Policy) (m : Masks) (g done f d : ℕ) : Type 0 where
-  pub next : Seeking p g f d (bitAnd (bitAnd f (m .groups)) (2 ^ 64 - 1 - d))
-  pub grows : done < d
-
 -- The same turn, at equal words.
-pub turn-at : {p : Policy} {m : Masks} {g done a b c d : ℕ} → a ≡ b → c ≡ d → Turn p m g done b d → Turn p m g done a c
-turn-at {p} {m} {g} {done} {b = b} {c = c} e f w =
-    subst (λ (n : ℕ). Turn p m g done n c) (sym e) (subst (λ (n : ℕ). Turn p m g done b n) (sym f) w)
+pub seek-at : {p : Policy} {g a b c d : ℕ} (n : ℕ) → a ≡ b → c ≡ d → Seeking p g b d (bitAnd (bitAnd b n) (2 ^ 64 - 1 - d))
+    → Seeking p g a c (bitAnd (bitAnd a n) (2 ^ 64 - 1 - c))
+seek-at {p} {g} {b = b} {c = c} n e f w =
+    subst
+    (λ (y : ℕ). Seeking p g y c (bitAnd (bitAnd y n) (2 ^ 64 - 1 - c)))
+    (sym e)
+    (subst (λ (y : ℕ). Seeking p g b y (bitAnd (bitAnd b n) (2 ^ 64 - 1 - y))) (sym f) w)
+
+-- What no policy is asked for: what is left is not done, so a turn that does some of it leaves less.
+pub record Undone (done todo : ℕ) : Type 0 where
+  pub todo-word : todo < 2 ^ 64
+  pub apart : (x : ℕ) → bit todo x ≡ 1 → (done < 2 ^ 64) × (bit done x ≡ 0)
+
+pub undone-start : (a b : ℕ) → b < 2 ^ 64 → Undone 0 (bitAnd a b)
+undone-start a b w = record { todo-word = set-mask a (set-bits b w) .word; apart = λ x e. (lit< tt, bit-zero x) }
+
+-- Where `done` were no word, nothing would be left.
+pub undone-again : (a d : ℕ) → Undone d (bitAnd a (2 ^ 64 - 1 - d))
+undone-again a d =
+    record {
+      todo-word = left .word;
+      apart = λ x e.
+          let b = left .only x e .1 in
+          elim (decLt d (2 ^ 64)) [
+            | yes l ↦ (l, omega (arith, bit-not 64 d x l (set-below (set-bits (2 ^ 64 - 1 - d) (ones-sub-lt 64 d)) x b), b, bit-le d x))
+            | no n ↦ absurd (bit-none x (ap (λ (y : ℕ). bit y x) (omega arith) ∙ b))
+          ];
+    }
+  where
+    left : SetOf (bitAnd a (2 ^ 64 - 1 - d)) (λ x. (bit a x ≡ 1) × (bit (2 ^ 64 - 1 - d) x ≡ 1))
+    left = set-mask a (set-bits (2 ^ 64 - 1 - d) (ones-sub-lt 64 d))
+
+module _ {done todo : ℕ} (w : Undone done todo) (h : ℕ) (e : bit todo h ≡ 1) where
+  one-taken : bit ((1 * 2 ^ h) % 2 ^ 64) h ≡ 1
+  one-taken = set-one h (set-below (set-bits todo (w .todo-word)) h e) .all h refl
+
+  less : (r : ℕ) → bit r h ≡ 1 → 2 ^ 64 - bitOr done r < 2 ^ 64 - done
+  less r b = let a = w .apart h e in omega (arith, or-grows done r h (a .1) b, a .0)
+
+  pub less-one : 2 ^ 64 - bitOr done ((1 * 2 ^ h) % 2 ^ 64) < 2 ^ 64 - done
+  less-one = less ((1 * 2 ^ h) % 2 ^ 64) one-taken
+
+  pub less-row : (row : ℕ) → 2 ^ 64 - bitOr done (bitOr row ((1 * 2 ^ h) % 2 ^ 64)) < 2 ^ 64 - done
+  less-row row =
+      less (bitOr row ((1 * 2 ^ h) % 2 ^ 64)) (bit-or row ((1 * 2 ^ h) % 2 ^ 64) h ∙ omega (arith, bit-le row h, one-taken))
 
 module _ (p : Policy) (m : Masks) (k : MasksOf p m) (g : ℕ) where
   pub seek-start : g < 64
@@ -88,38 +135,37 @@ module _ (p : Policy) (m : Masks) (k : MasksOf p m) (g : ℕ) where
       }
 
   module _ {found done todo : ℕ} (s : Seeking p g found done todo) (h : ℕ) (e : bit todo h ≡ 1) where
-    fresh : bit done h ≡ 0
-    fresh = ⊎-elim (λ z. z) (λ o. absurd (s .left .only h e .1 .1 o)) (bit-two done h)
-
     -- The turn takes h, and finds all that is under it, by a row that is ready.
-    pub turn-row : (row : ℕ) → SetOf row (λ x. Under (view p) x h) → Turn p m g done (bitOr found row) (bitOr done row)
+    pub turn-row : (row : ℕ) → SetOf row (λ x. Under (view p) x h)
+        → let f = bitOr found row in
+        let d = bitOr done (bitOr row ((1 * 2 ^ h) % 2 ^ 64)) in
+        Seeking p g f d (bitAnd (bitAnd f (m .groups)) (2 ^ 64 - 1 - d))
     turn-row row r =
         let w = s .left .only h e in
-        record {
-          next =
-              seek-step
-              s
-              (set-or (set-bits found (s .found-word)) r)
-              (set-or (set-bits done (s .done-word)) r)
-              (λ x u. under-trans u (s .only h (w .0 .0)))
-              (λ j x u d. up d u);
-          grows = or-grows done row h fresh (r .all h (itself (group-in-use (view p) h (w .0 .1))));
-        }
+        seek-step
+        s
+        (set-or (set-bits found (s .found-word)) r)
+        (set-or (set-bits done (s .done-word)) (set-or r (set-one h (w .1 .0))))
+        (λ x u. under-trans u (s .only h (w .0 .0)))
+        (λ j x q d.
+        ⊎-elim
+        (λ u. up d u)
+        (λ i. up (subst (Direct (view p) x) i d) (itself (group-in-use (view p) h (w .0 .1))))
+        q)
 
     -- The turn takes h, and finds what is directly in it.
-    pub turn-one : (row : ℕ) → SetOf row (InRow p h) → Turn p m g done (bitOr found row) (bitOr done ((1 * 2 ^ h) % 2 ^ 64))
+    pub turn-one : (row : ℕ) → SetOf row (InRow p h)
+        → let f = bitOr found row in
+        let d = bitOr done ((1 * 2 ^ h) % 2 ^ 64) in
+        Seeking p g f d (bitAnd (bitAnd f (m .groups)) (2 ^ 64 - 1 - d))
     turn-one row r =
         let w = s .left .only h e in
-        record {
-          next =
-              seek-step
-              s
-              (set-or (set-bits found (s .found-word)) r)
-              (set-or (set-bits done (s .done-word)) (set-one h (w .1 .0)))
-              (λ x i. up (direct-of-row p x h (w .0 .1) i) (s .only h (w .0 .0)))
-              (λ j x q d. subst (λ (y : ℕ). InRow p y x) q (row-of-direct p x j d));
-          grows = or-grows done ((1 * 2 ^ h) % 2 ^ 64) h fresh (set-one h (w .1 .0) .all h refl);
-        }
+        seek-step
+        s
+        (set-or (set-bits found (s .found-word)) r)
+        (set-or (set-bits done (s .done-word)) (set-one h (w .1 .0)))
+        (λ x i. up (direct-of-row p x h (w .0 .1) i) (s .only h (w .0 .0)))
+        (λ j x q d. subst (λ (y : ℕ). InRow p y x) q (row-of-direct p x j d))
 
 -- Where nothing is left, all is found.
 pub seek-end : {p : Policy} {g found done todo : ℕ} → Seeking p g found done todo → todo ≡ 0 → SetOf found (λ x. Under (view p) x g)

@@ -1,6 +1,7 @@
 -- The sort of an object as it counts, against the byte that is stored: on the table the two agree on 1, 2 and 3, and whatever is in
 -- use has one of these. By the two cases of `counted`.
-use mathlib.Core.Path.{_≡_, refl, sym, _∙_}
+use mathlib.Core.Path.{_≡_, refl, sym, ap, _∙_, subst}
+use mathlib.Core.List.{List}
 use mathlib.Core.Bool.{Bool, true, false}
 use mathlib.Core.Logic.{_⊎_, inl, inr, ⊎-elim}
 use Prim.Native.Nat.{ℕ, _≤_, _<_, zero-le}
@@ -10,6 +11,8 @@ use lib.Dec.{eqb, leb, ltb}
 use lib.ListN.{getD}
 use borrow.Author.Tests.{eqb-true, eq-eqb, le-leb, leb-true, lt-ltb}
 use Rattle.reach.specs.declared.Policy.{Policy}
+use Rattle.reach.specs.declared.Masks.{Masks}
+use Rattle.reach.specs.Surveys.{MasksOf}
 use Rattle.reach.specs.Tests.{_⇒_∥_, Decides}
 use Rattle.reach.specs.Tables.{counted, sort, view}
 use Rattle.reach.specs.Reach.{InUse, Group, User, Target}
@@ -56,12 +59,15 @@ decides-sort p x k l a b =
     }
 
 -- The objects of a sort, by the stored bytes.
-pub sort-set : (p : Policy) (k : ℕ) {s : ℕ} → 0 < k → k ≤ 3 → SetOf s (λ x. (x < 64) × (getD (p .sorts) x 0 ≡ k)) → SetOf s (λ x. sort p x ≡ k)
-sort-set p k a b s =
+pub sort-set : (p : Policy) (l : List ℕ) → p .sorts ≡ l → (k : ℕ) {s : ℕ} → 0 < k → k ≤ 3
+    → SetOf s (λ x. (x < 64) × (getD l x 0 ≡ k)) → SetOf s (λ x. sort p x ≡ k)
+sort-set p l e k a b s =
     set-as
     s
-    (λ x w. decides-sort p x k (w .0) a b .sound (eq-eqb _ _ (w .1)))
-    (λ x e. let l = in-use-below p x (omega (arith, a, e)) in (l, eqb-true _ _ (decides-sort p x k l a b .complete e)))
+    (λ x w. decides-sort p x k (w .0) a b .sound (eq-eqb _ _ (ap (λ (t : List ℕ). getD t x 0) e ∙ w .1)))
+    (λ x f.
+    let n = in-use-below p x (omega (arith, a, f)) in
+    (n, ap (λ (t : List ℕ). getD t x 0) (sym e) ∙ eqb-true _ _ (decides-sort p x k n a b .complete f)))
 
 -- What is in use is a group, a user or a target.
 pub in-use-cases : (p : Policy) (x : ℕ) → InUse (view p) x → (Group (view p) x ⊎ User (view p) x) ⊎ Target (view p) x
@@ -77,3 +83,23 @@ in-use-cases p x i =
 
 pub in-use-of-sort : (p : Policy) (x : ℕ) → (Group (view p) x ⊎ User (view p) x) ⊎ Target (view p) x → InUse (view p) x
 in-use-of-sort p x w = ⊎-elim (λ v. ⊎-elim (λ e. omega (arith, e)) (λ e. omega (arith, e)) v) (λ e. omega (arith, e)) w
+
+-- ---- The masks are those of the sorts
+
+sort-same : (p n : Policy) → n .sorts ≡ p .sorts → (x : ℕ) → sort n x ≡ sort p x
+unfolding sort
+sort-same p n e x = rw e
+
+-- A policy with the same sorts has the same masks.
+pub masks-same : (p n : Policy) {m : Masks} → n .sorts ≡ p .sorts → MasksOf p m → MasksOf n m
+masks-same p n e k =
+    record {
+      objects =
+          set-as
+          (k .objects)
+          (λ x i. subst (λ (s : ℕ). 0 < s) (sym (sort-same p n e x)) i)
+          (λ x i. subst (λ (s : ℕ). 0 < s) (sort-same p n e x) i);
+      groups = set-as (k .groups) (λ x s. sort-same p n e x ∙ s) (λ x s. sym (sort-same p n e x) ∙ s);
+      users = set-as (k .users) (λ x s. sort-same p n e x ∙ s) (λ x s. sym (sort-same p n e x) ∙ s);
+      targets = set-as (k .targets) (λ x s. sort-same p n e x ∙ s) (λ x s. sym (sort-same p n e x) ∙ s);
+    }

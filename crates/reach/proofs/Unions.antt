@@ -1,7 +1,7 @@
 -- A loop that goes through the places 0, 1, .. of a table and adds to a set what Q gives at each. After n places the set has what Q
 -- gives at some place below n.
 use mathlib.Core.Path.{_≡_, subst}
-use mathlib.Core.Logic.{_⊎_, inl, inr, ⊎-elim}
+use mathlib.Core.Logic.{inl, inr, ⊎-elim}
 use Prim.Native.Nat.{ℕ, _+_}
 use native.Mathlib.Nat.{not-suc-le-zero}
 use native.Mathlib.Omega.{arith}
@@ -29,18 +29,6 @@ module _ (Q : ℕ → ℕ → Type 0) where
       ⊎-elim
       (λ e. inr (subst (λ (i : ℕ). Q i x) e (w .at)))
       (λ l. inl (record { place = w .place; low = l; at = w .at }))
-      (below-next (w .place) n (w .low)))
-
-  -- Q gives nothing at n.
-  pub union-skip : {s n : ℕ} → Union n s → ((x : ℕ) → Q n x → ⊥) → Union (n + 1) s
-  union-skip {n = n} h none =
-      set-as
-      h
-      (λ x w. some-up w)
-      (λ x w.
-      ⊎-elim
-      (λ e. absurd (none x (subst (λ (i : ℕ). Q i x) e (w .at))))
-      (λ l. record { place = w .place; low = l; at = w .at })
       (below-next (w .place) n (w .low)))
 
   pub union-end : (m : ℕ) {s n : ℕ} → Union n s → n ≡ m → Union m s

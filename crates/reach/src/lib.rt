@@ -1,13 +1,24 @@
 // Reach and privileges: the policy (document 01's sheet), who is under which group, who holds what, and the policy after each
 // accepted change. Nothing here knows a byte of a request or a refusal's number.
-mod closure;
 mod objects;
 mod privileges;
 mod sets;
 mod successors;
+mod surveys;
 mod under;
 
+pub use objects::appointment_at;
+pub use objects::row;
+pub use objects::rule_at;
+pub use privileges::administered;
+pub use privileges::governed;
+pub use privileges::held;
+pub use privileges::orphaned;
+pub use privileges::permitting;
 pub use sets::has;
+pub use surveys::closure;
+pub use under::masks_of;
+pub use under::search;
 
 // Document 01's warrant: kind 1 owner, 2 manager, 3 administrator; any other kind is an empty place.
 pub struct Appointment {
@@ -51,4 +62,10 @@ pub struct Masks {
 pub struct Survey {
     pub masks: Masks,
     pub closure: [u64; 64],
+}
+
+// What has been asked of one object: of which groups, and which of them it is under.
+pub struct Asked {
+    pub asked: u64,
+    pub above: u64,
 }

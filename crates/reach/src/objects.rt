@@ -1,6 +1,7 @@
 // Objects and places: what a policy holds at a number, as it counts.
 ghost use mathlib.Core.Path.{_≡_};
-ghost use Rattle.reach.specs.Tables.{counted, sort, stored, appointment, standing, rule, initial};
+ghost use lib.ListN.{getD};
+ghost use Rattle.reach.specs.Tables.{counted, sort, stored, noAppointment, standing, noRule, initial};
 ghost use Rattle.reach.specs.Reach.{inUse, isGroup, isUser, isTarget, direct};
 use crate::AccessRule;
 use crate::Appointment;
@@ -12,6 +13,46 @@ fn counted(n: u8) -> u8
     ensures { λ r. ⌜ r ≡ counted n ⌝ }
 {
     if n <= 3 { n } else { 0 }
+}
+
+// Row g; past the end of the table there is nothing.
+pub fn row(rows: &[u64], g: u8) -> u64
+    ensures { λ r. ⌜ r ≡ getD (now (rows .entry)) g 0 ⌝ }
+{
+    let i = g as usize;
+    if i < rows.len() { rows[i] } else { 0 }
+}
+
+// The appointment at place i; past the table there is none.
+pub fn appointment_at(appointments: [Appointment; 32], i: u8) -> Appointment
+    ensures { λ r. ⌜ r ≡ getD appointments i noAppointment ⌝ }
+{
+    let n = i as usize;
+    if n < 32 {
+        return appointments[n];
+    }
+    Appointment {
+        kind: 0,
+        holder: 0,
+        a: 0,
+        b: 0,
+    }
+}
+
+// The rule at place i; past the table there is none.
+pub fn rule_at(rules: [AccessRule; 64], i: u8) -> AccessRule
+    ensures { λ r. ⌜ r ≡ getD rules i noRule ⌝ }
+{
+    let n = i as usize;
+    if n < 64 {
+        return rules[n];
+    }
+    AccessRule {
+        used: false,
+        users: 0,
+        targets: 0,
+        operations: 0,
+    }
 }
 
 impl Appointment {
@@ -109,37 +150,5 @@ impl Policy {
         ensures { λ r. ⌜ r ≡ direct self x g ⌝ }
     {
         self.in_use(x) & self.is_group(g) & self.stored(x, g)
-    }
-
-    // The appointment at place i; past the table there is none.
-    pub fn appointment(self, i: u8) -> Appointment
-        ensures { λ r. ⌜ r ≡ appointment self i ⌝ }
-    {
-        let n = i as usize;
-        if n < 32 {
-            return self.appointments[n];
-        }
-        Appointment {
-            kind: 0,
-            holder: 0,
-            a: 0,
-            b: 0,
-        }
-    }
-
-    // The rule at place i; past the table there is none.
-    pub fn rule(self, i: u8) -> AccessRule
-        ensures { λ r. ⌜ r ≡ rule self i ⌝ }
-    {
-        let n = i as usize;
-        if n < 64 {
-            return self.rules[n];
-        }
-        AccessRule {
-            used: false,
-            users: 0,
-            targets: 0,
-            operations: 0,
-        }
     }
 }

@@ -1,116 +1,244 @@
-// Privileges (document 01's holdings): what a user owns, manages and administers, and what he is permitted.
+// Privileges (document 01's holdings): what a user owns, manages and administers, and what he is permitted. The functions ask the tables:
+// that of the members is lent, the masks are worked once for many questions, and appointments or rules are handed in. The methods ask a
+// policy as a whole.
 ghost use mathlib.Core.Path.{_≡_};
+ghost use mathlib.Core.Bool.{true};
+ghost use mathlib.Core.Logic.{_⊎_};
 ghost use Prim.Native.Nat.{_<_};
-ghost use Rattle.reach.specs.Words.{SetOf};
-ghost use Rattle.reach.specs.Tables.{appointment, view};
-ghost use Rattle.reach.specs.Reach.{User};
-ghost use Rattle.reach.specs.Privileges.{owner, HoldsBy, Holds, Owns, Manages, AdministersBy, Administers, PermitsBy, Permitted};
+ghost use Rattle.reach.specs.Words.{SetOf, bit};
+ghost use Rattle.reach.specs.Tables.{view};
+ghost use Rattle.reach.specs.Reach.{User, Under};
+ghost use Rattle.reach.specs.Privileges.{Holds, Owns, Manages, Administers, Permitted};
 ghost use Rattle.reach.specs.Privileges.{owns, manages, administers, permitting, orphaned};
-ghost use Rattle.reach.specs.Surveys.{MasksOf};
+ghost use Rattle.reach.specs.Surveys.{Whose, Told};
+use crate::AccessRule;
+use crate::Appointment;
+use crate::Asked;
 use crate::Masks;
 use crate::Place;
 use crate::Policy;
 use crate::sets::has;
 use crate::under::search;
 
-// What u holds by the appointment at place i, if it is of that kind. Here and below: the caller has just worked the masks, and
-// goes through the places of a table.
-fn held_by(p: Policy, m: Masks, kind: u8, u: u8, i: usize) -> u64
-    requires { ⌜ MasksOf p m × (i < 32) ⌝ }
-    ensures { λ r. ⌜ SetOf r (λ x. HoldsBy (view p) kind u x i) ⌝ }
+// What u holds by this appointment, if it is of that kind and his.
+fn held_by(members: &[u64; 64], m: Masks, w: Appointment, kind: u8, u: u8) -> u64
+    ensures { λ r. ⌜ Whose (now (members .entry)) m (λ p. SetOf r (λ x. ((w .kind ≡ kind) × (w .holder ≡ u)) × Under (view p) x (w .a))) ⌝ }
 {
-    let appointments = p.appointments;
-    let w = appointments[i];
     if w.kind != kind {
         return 0;
     }
     if w.holder != u {
         return 0;
     }
-    search(p, m, w.a)
+    search(members, m, w.a)
 }
 
-// What the holder of the appointment at place i owns by it, if he is a user.
-fn owned_by(p: Policy, m: Masks, i: usize) -> u64
-    requires { ⌜ MasksOf p m × (i < 32) ⌝ }
-    ensures { λ r. ⌜ SetOf r (λ x. User (view p) (appointment p i .holder) × HoldsBy (view p) owner (appointment p i .holder) x i) ⌝ }
+// All that u holds by appointments of one kind.
+pub fn held(members: &[u64; 64], m: Masks, appointments: [Appointment; 32], kind: u8, u: u8) -> u64
+    ensures { λ r. ⌜ Whose (now (members .entry)) m (λ p. p .appointments ≡ appointments → SetOf r (λ x. Holds (view p) kind u x)) ⌝ }
 {
-    let appointments = p.appointments;
-    let w = appointments[i];
+    if !has(m.users, u) {
+        return 0;
+    }
+    let mut set: u64 = 0;
+    let mut i: usize = 0;
+    while i < 32 {
+        set |= held_by(members, m, appointments[i], kind, u);
+        i += 1;
+    }
+    set
+}
+
+// What u owns or manages by this appointment, if it is his.
+fn governed_by(members: &[u64; 64], m: Masks, w: Appointment, u: u8) -> u64
+    ensures { λ r. ⌜ Whose (now (members .entry)) m (λ p.
+        SetOf r (λ x. (((w .kind ≡ 1) ⊎ (w .kind ≡ 2)) × (w .holder ≡ u)) × Under (view p) x (w .a))) ⌝ }
+{
+    if !((w.kind == 1) | (w.kind == 2)) {
+        return 0;
+    }
+    if w.holder != u {
+        return 0;
+    }
+    search(members, m, w.a)
+}
+
+// All that u owns or manages.
+pub fn governed(members: &[u64; 64], m: Masks, appointments: [Appointment; 32], u: u8) -> u64
+    ensures { λ r. ⌜ Whose (now (members .entry)) m (λ p.
+        p .appointments ≡ appointments → SetOf r (λ x. Owns (view p) u x ⊎ Manages (view p) u x)) ⌝ }
+{
+    if !has(m.users, u) {
+        return 0;
+    }
+    let mut set: u64 = 0;
+    let mut i: usize = 0;
+    while i < 32 {
+        set |= governed_by(members, m, appointments[i], u);
+        i += 1;
+    }
+    set
+}
+
+// What the holder of this appointment owns by it, if it is an owner's and he is a user.
+fn owned_by(members: &[u64; 64], m: Masks, w: Appointment) -> u64
+    ensures { λ r. ⌜ Whose (now (members .entry)) m (λ p.
+        SetOf r (λ x. ((w .kind ≡ 1) × User (view p) (w .holder)) × Under (view p) x (w .a))) ⌝ }
+{
+    if w.kind != 1 {
+        return 0;
+    }
     if !has(m.users, w.holder) {
         return 0;
     }
-    held_by(p, m, 1, w.holder, i)
+    search(members, m, w.a)
 }
 
-// All b such that u administers (a, b) by the appointment at place i.
-fn administered_by(p: Policy, m: Masks, u: u8, a: u8, i: usize) -> u64
-    requires { ⌜ MasksOf p m × (i < 32) ⌝ }
-    ensures { λ r. ⌜ SetOf r (λ b. AdministersBy (view p) u a b i) ⌝ }
+// Whether some object in use has no owner. The search ends where every object has one.
+pub fn orphaned(members: &[u64; 64], m: Masks, appointments: [Appointment; 32]) -> bool
+    ensures { λ r. ⌜ Whose (now (members .entry)) m (λ p. p .appointments ≡ appointments → r ≡ orphaned p) ⌝ }
 {
-    let appointments = p.appointments;
-    let w = appointments[i];
+    let mut owned: u64 = 0;
+    let mut i: usize = 0;
+    while i < 32 {
+        owned |= owned_by(members, m, appointments[i]);
+        if m.objects & !owned == 0 {
+            return false;
+        }
+        i += 1;
+    }
+    m.objects & !owned != 0
+}
+
+// All b such that u administers (a, b) by this appointment.
+fn administered_by(members: &[u64; 64], m: Masks, w: Appointment, u: u8, a: u8) -> u64
+    ensures { λ r. ⌜ Whose (now (members .entry)) m (λ p.
+        SetOf r (λ b. ((w .kind ≡ 3) × (w .holder ≡ u)) × (Under (view p) a (w .a) × Under (view p) b (w .b)))) ⌝ }
+{
     if w.kind != 3 {
         return 0;
     }
     if w.holder != u {
         return 0;
     }
-    if !has(search(p, m, w.a), a) {
+    if !has(search(members, m, w.a), a) {
         return 0;
     }
-    search(p, m, w.b)
+    search(members, m, w.b)
 }
 
-// All x such that the rule at place i permits u operation k on x.
-fn permitted_by(p: Policy, m: Masks, u: u8, k: u8, i: usize) -> u64
-    requires { ⌜ MasksOf p m × (i < 64) ⌝ }
-    ensures { λ r. ⌜ SetOf r (λ x. PermitsBy (view p) u k x i) ⌝ }
+// All b such that u administers the pair (a, b), each by one appointment.
+pub fn administered(
+    members: &[u64; 64],
+    m: Masks,
+    appointments: [Appointment; 32],
+    u: u8,
+    a: u8,
+) -> u64
+    ensures { λ r. ⌜ Whose (now (members .entry)) m (λ p. p .appointments ≡ appointments → SetOf r (λ b. Administers (view p) u a b)) ⌝ }
 {
-    let rules = p.rules;
-    let rule = rules[i];
+    if !has(m.users, u) {
+        return 0;
+    }
+    let mut set: u64 = 0;
+    let mut i: usize = 0;
+    while i < 32 {
+        set |= administered_by(members, m, appointments[i], u, a);
+        i += 1;
+    }
+    set
+}
+
+// What is known of x, with one group more asked. Its caller has tested the number.
+fn ask(members: &[u64; 64], m: Masks, x: u8, known: Asked, g: u8) -> Asked
+    requires { ⌜ g < 64 ⌝ }
+    ensures { λ r. ⌜ Whose (now (members .entry)) m (λ p. Told p x known → Told p x r × (bit (r .asked) g ≡ 1)) ⌝ }
+{
+    if has(known.asked, g) {
+        return known;
+    }
+    let one = 1u64 << g;
+    if has(search(members, m, g), x) {
+        return Asked {
+            asked: known.asked | one,
+            above: known.above | one,
+        };
+    }
+    Asked {
+        asked: known.asked | one,
+        above: known.above,
+    }
+}
+
+// The lowest place of a rule by which u is permitted operation k on x, or none. Each group is searched once.
+pub fn permitting(
+    members: &[u64; 64],
+    m: Masks,
+    rules: [AccessRule; 64],
+    u: u8,
+    k: u8,
+    x: u8,
+) -> Place
+    ensures { λ r. ⌜ Whose (now (members .entry)) m (λ p. p .rules ≡ rules → r ≡ permitting p u k x) ⌝ }
+{
+    if !(has(m.users, u) & has(m.targets, x) & (k < 8)) {
+        return Place::Nothing;
+    }
+    let mut of_user = Asked { asked: 0, above: 0 };
+    let mut of_target = Asked { asked: 0, above: 0 };
+    let mut i: u8 = 0;
+    while i < 64 {
+        let n = i as usize;
+        let rule = rules[n];
+        if rule.used & has(rule.operations as u64, k) & (rule.users < 64) & (rule.targets < 64) {
+            of_user = ask(members, m, u, of_user, rule.users);
+            if has(of_user.above, rule.users) {
+                of_target = ask(members, m, x, of_target, rule.targets);
+                if has(of_target.above, rule.targets) {
+                    return Place::At(i);
+                }
+            }
+        }
+        i += 1;
+    }
+    Place::Nothing
+}
+
+// All x such that the rule permits u operation k on x.
+fn permitted_by(members: &[u64; 64], m: Masks, rule: AccessRule, u: u8, k: u8) -> u64
+    ensures { λ r. ⌜ Whose (now (members .entry)) m (λ p.
+        SetOf r (λ x. ((rule .used ≡ true) × (bit (rule .operations) k ≡ 1)) × (Under (view p) u (rule .users) ×
+        Under (view p) x (rule .targets)))) ⌝ }
+{
     if !rule.used {
         return 0;
     }
     if !has(rule.operations as u64, k) {
         return 0;
     }
-    if !has(search(p, m, rule.users), u) {
+    if !has(search(members, m, rule.users), u) {
         return 0;
     }
-    search(p, m, rule.targets)
+    search(members, m, rule.targets)
 }
 
 impl Policy {
-    // All that u holds by appointments of one kind.
-    fn held(self, kind: u8, u: u8) -> u64
-        ensures { λ r. ⌜ SetOf r (λ x. Holds (view self) kind u x) ⌝ }
-    {
-        let m = self.masks();
-        if !has(m.users, u) {
-            return 0;
-        }
-        let mut set: u64 = 0;
-        let mut i: usize = 0;
-        while i < 32 {
-            set |= held_by(self, m, kind, u, i);
-            i += 1;
-        }
-        set
-    }
-
     // All that u owns.
     pub fn owned(self, u: u8) -> u64
         ensures { λ r. ⌜ SetOf r (λ x. Owns (view self) u x) ⌝ }
     {
-        self.held(1, u)
+        let m = self.masks();
+        let appointments = self.appointments;
+        held(&self.members, m, appointments, 1, u)
     }
 
     // All that u manages.
     pub fn managed(self, u: u8) -> u64
         ensures { λ r. ⌜ SetOf r (λ x. Manages (view self) u x) ⌝ }
     {
-        self.held(2, u)
+        let m = self.masks();
+        let appointments = self.appointments;
+        held(&self.members, m, appointments, 2, u)
     }
 
     // Whether u owns x.
@@ -127,24 +255,16 @@ impl Policy {
         has(self.managed(u), x)
     }
 
-    // All b such that u administers the pair (a, b), each by one appointment.
+    // All b such that u administers the pair (a, b).
     pub fn administered(self, u: u8, a: u8) -> u64
         ensures { λ r. ⌜ SetOf r (λ b. Administers (view self) u a b) ⌝ }
     {
         let m = self.masks();
-        if !has(m.users, u) {
-            return 0;
-        }
-        let mut set: u64 = 0;
-        let mut i: usize = 0;
-        while i < 32 {
-            set |= administered_by(self, m, u, a, i);
-            i += 1;
-        }
-        set
+        let appointments = self.appointments;
+        administered(&self.members, m, appointments, u, a)
     }
 
-    // Whether u administers the pair (a, b), by one appointment.
+    // Whether u administers the pair (a, b).
     pub fn administers(self, u: u8, a: u8, b: u8) -> bool
         ensures { λ r. ⌜ r ≡ administers self u a b ⌝ }
     {
@@ -162,10 +282,11 @@ impl Policy {
         if 8 <= k {
             return 0;
         }
+        let rules = self.rules;
         let mut set: u64 = 0;
         let mut i: usize = 0;
         while i < 64 {
-            set |= permitted_by(self, m, u, k, i);
+            set |= permitted_by(&self.members, m, rules[i], u, k);
             i += 1;
         }
         set & m.targets
@@ -176,18 +297,8 @@ impl Policy {
         ensures { λ r. ⌜ r ≡ permitting self u k x ⌝ }
     {
         let m = self.masks();
-        if !(has(m.users, u) & has(m.targets, x) & (k < 8)) {
-            return Place::Nothing;
-        }
-        let mut i: u8 = 0;
-        while i < 64 {
-            let n = i as usize;
-            if has(permitted_by(self, m, u, k, n), x) {
-                return Place::At(i);
-            }
-            i += 1;
-        }
-        Place::Nothing
+        let rules = self.rules;
+        permitting(&self.members, m, rules, u, k, x)
     }
 
     // Whether some object in use has no owner.
@@ -195,12 +306,7 @@ impl Policy {
         ensures { λ r. ⌜ r ≡ orphaned self ⌝ }
     {
         let m = self.masks();
-        let mut owned: u64 = 0;
-        let mut i: usize = 0;
-        while i < 32 {
-            owned |= owned_by(self, m, i);
-            i += 1;
-        }
-        m.objects & !owned != 0
+        let appointments = self.appointments;
+        orphaned(&self.members, m, appointments)
     }
 }

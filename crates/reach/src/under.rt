@@ -1,26 +1,25 @@
 // Reach, worked from the group downward.
 ghost use mathlib.Core.Path.{_≡_};
 ghost use Prim.Native.Nat.{_≤_};
+ghost use Rattle.reach.specs.declared.Policy.{Policy};
 ghost use Rattle.reach.specs.Words.{SetOf};
 ghost use Rattle.reach.specs.Tables.{view};
 ghost use Rattle.reach.specs.Reach.{Under, under};
-ghost use Rattle.reach.specs.Surveys.{Among, MasksOf};
+ghost use Rattle.reach.specs.Surveys.{Among, MasksOf, Whose};
 use crate::Masks;
 use crate::Policy;
 use crate::sets::has;
 use crate::sets::joined;
 use crate::sets::mark;
 
-// All that is under g. Each turn takes one group that was found and not done, and finds what is directly in it. The module is
-// private: its callers have just worked the masks, once for many searches.
-pub fn search(p: Policy, m: Masks, g: u8) -> u64
-    requires { ⌜ MasksOf p m ⌝ }
-    ensures { λ r. ⌜ SetOf r (λ x. Under (view p) x g) ⌝ }
+// All that is under g. Each turn takes one group that was found and not done, and finds what is directly in it. The table is lent: whoever
+// asks many questions of a policy works its masks once, and copies nothing.
+pub fn search(members: &[u64; 64], m: Masks, g: u8) -> u64
+    ensures { λ r. ⌜ Whose (now (members .entry)) m (λ p. SetOf r (λ x. Under (view p) x g)) ⌝ }
 {
     if g >= 64 {
         return 0;
     }
-    let members = p.members;
     let mut found = (1u64 << g) & m.objects;
     let mut done: u64 = 0;
     let mut todo = found & m.groups;
@@ -44,7 +43,8 @@ struct Half {
 // bits two: halves take a quarter of the time.
 fn half_of(sorts: [u8; 64], from: usize) -> Half
     requires { ⌜ from ≤ 32 ⌝ }
-    ensures { λ r. ⌜ SetOf (r .groups) (Among sorts from 1) × SetOf (r .users) (Among sorts from 2) × SetOf (r .targets) (Among sorts from 3) ⌝ }
+    ensures { λ r. ⌜ SetOf (r .groups) (Among sorts from 1) × SetOf (r .users) (Among sorts from 2) ×
+        SetOf (r .targets) (Among sorts from 3) ⌝ }
 {
     let mut groups: u32 = 0;
     let mut users: u32 = 0;
@@ -64,30 +64,38 @@ fn half_of(sorts: [u8; 64], from: usize) -> Half
     }
 }
 
+// The objects of each sort.
+pub fn masks_of(sorts: [u8; 64]) -> Masks
+    ensures { λ r. ⌜ ((p : Policy) → p .sorts ≡ sorts → MasksOf p r) ⌝ }
+{
+    let low = half_of(sorts, 0);
+    let high = half_of(sorts, 32);
+    let groups = joined(low.groups, high.groups);
+    let users = joined(low.users, high.users);
+    let targets = joined(low.targets, high.targets);
+    Masks {
+        objects: groups | users | targets,
+        groups,
+        users,
+        targets,
+    }
+}
+
 impl Policy {
     // The objects of each sort.
     pub fn masks(self) -> Masks
         ensures { λ r. ⌜ MasksOf self r ⌝ }
     {
         let sorts = self.sorts;
-        let low = half_of(sorts, 0);
-        let high = half_of(sorts, 32);
-        let groups = joined(low.groups, high.groups);
-        let users = joined(low.users, high.users);
-        let targets = joined(low.targets, high.targets);
-        Masks {
-            objects: groups | users | targets,
-            groups,
-            users,
-            targets,
-        }
+        masks_of(sorts)
     }
 
     // All that is under g, as a set.
     pub fn under_set(self, g: u8) -> u64
         ensures { λ r. ⌜ SetOf r (λ x. Under (view self) x g) ⌝ }
     {
-        search(self, self.masks(), g)
+        let m = self.masks();
+        search(&self.members, m, g)
     }
 
     // Whether x is under g.

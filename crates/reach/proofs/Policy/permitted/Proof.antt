@@ -1,19 +1,21 @@
 -- The set is a union over the rules, each with its own contract, and of that the targets; who is no user is permitted nothing.
 use native.Mathlib.Omega.{arith}
+use mathlib.Core.Path.{refl}
 use Prim.Native.Nat.{_-_, _≤_}
 use Rattle.reach.specs.Tables.{view}
 use Rattle.reach.specs.Privileges.{PermitsBy}
 use Rattle.reach.proofs.WordSets.{set-as, set-none, set-mask, set-outside, set-inside}
 use Rattle.reach.proofs.Unions.{Union, union-none, union-add, union-end}
+use Rattle.reach.proofs.Places.{place-permits}
 use borrow.Author.Needs.{needs}
 use Rattle.reach.proofs.Policy.permitted.Statement.{statement}
 use Rattle.reach.proofs.Policy.permitted.Tie as tie
 
 abbrev Inv-loop : tie.InvT-loop
-Inv-loop self u k m set₀ i₀ set i = (i ≤ 64) × Union (λ j x. PermitsBy (view self) u k x j) i set
+Inv-loop u k self m rules set₀ i₀ set i = (i ≤ 64) × Union (λ j x. PermitsBy (view self) u k x j) i set
 
 abbrev μ-loop : tie.MeasureT-loop
-μ-loop self u k m set₀ i₀ set i = 64 - i
+μ-loop u k self m rules set₀ i₀ set i = 64 - i
 
 masks-requires : tie.Need-masks-requires Inv-loop μ-loop
 masks-requires c κs = search needs
@@ -30,6 +32,12 @@ returns-2 c = set-none (λ x h. omega (arith, h .number, c .if2 .taken))
 loop-holds : tie.Need-loop-holds Inv-loop μ-loop
 loop-holds c = (search needs, union-none _)
 
+mul-permitted-by : tie.Need-mul-permitted-by Inv-loop μ-loop
+mul-permitted-by c = search needs
+
+array-copy-out-permitted-by : tie.Need-array-copy-out-permitted-by Inv-loop μ-loop
+array-copy-out-permitted-by c = c .before .before .loop-test .taken
+
 permitted-by-requires : tie.Need-permitted-by-requires Inv-loop μ-loop
 permitted-by-requires c κs = search needs
 
@@ -40,19 +48,24 @@ loop-less : tie.Need-loop-less Inv-loop μ-loop
 loop-less c = search needs
 
 loop-again : tie.Need-loop-again Inv-loop μ-loop
-loop-again c = (search needs, union-add _ (c .before .before .loop .inv .1) (c .permitted-by .ensures))
+loop-again c =
+    let l = c .before .before .before .before .before in
+    let m = l .before .before .before .before .before .masks .ensures in
+    let here = c .permitted-by .ensures _ (record { rows = refl; masks = m }) in
+    (search needs, union-add _ (l .loop .inv .1) (place-permits _ refl _ _ _ here))
 
 returns-3 : tie.Need-returns-3 Inv-loop μ-loop
 returns-3 c =
-    let all = union-end _ 64 (c .before .before .loop .inv .1) (omega (arith, c .before .loop-test .left)) in
-    let masks = c .before .before .before .before .before .before .masks .ensures in
+    let l = c .before .before in
+    let m = l .before .before .before .before .before .masks .ensures in
+    let all = union-end _ 64 (l .loop .inv .1) (omega (arith, c .before .loop-test .left)) in
     set-as
-    (set-mask _ (masks .targets))
+    (set-mask _ (m .targets))
     (λ x w.
     record {
-      user = set-inside _ (c .before .before .before .before .before .has .ensures) (c .before .before .before .before .if1 .left) (masks .users);
+      user = set-inside _ (l .before .before .before .before .has .ensures) (l .before .before .before .if1 .left) (m .users);
       target = w .1;
-      number = omega (arith, c .before .before .before .if2 .left);
+      number = omega (arith, l .before .before .if2 .left);
       by = all .only x (w .0);
     })
     (λ x h. (all .all x (h .by), h .target))
@@ -68,6 +81,8 @@ permitted-spec =
     returns
     returns-2
     loop-holds
+    mul-permitted-by
+    array-copy-out-permitted-by
     permitted-by-requires
     add-i
     loop-less

@@ -3,22 +3,14 @@ use mathlib.Core.Path.{sym, _∙_}
 use mathlib.Core.Bool.{true≢false}
 use borrow.Author.Tests.{eqb-true, not-true, not-false}
 use Rattle.reach.specs.Words.{has}
-use Rattle.reach.specs.Tables.{rule}
 use Rattle.reach.proofs.Testing.{decides-eqb, refuted}
 use Rattle.reach.proofs.WordSets.{set-as, set-none, set-outside, set-inside}
 use borrow.Author.Needs.{needs}
 use Rattle.reach.proofs.privileges.permitted_by.Statement.{statement}
 use Rattle.reach.proofs.privileges.permitted_by.Tie as tie
 
-mul-rule : tie.Need-mul-rule
-mul-rule c = search needs
-
-array-copy-out-rule : tie.Need-array-copy-out-rule
-array-copy-out-rule c = search needs
-
 returns : tie.Need-returns
-unfolding rule
-returns c = set-none (λ x h. true≢false (sym (h .used) ∙ not-true _ (c .if1 .taken)))
+returns c = λ p k. set-none (λ x h. true≢false (sym (h .0 .0) ∙ not-true _ (c .if1 .taken)))
 
 cast-has : tie.Need-cast-has
 cast-has c = search needs
@@ -27,8 +19,8 @@ has-requires : tie.Need-has-requires
 has-requires c κs = search needs
 
 returns-2 : tie.Need-returns-2
-unfolding rule has
-returns-2 c = set-none (λ x h. refuted (decides-eqb _ 1) (sym (c .before .has .ensures) ∙ not-true _ (c .if2 .taken)) (h .operation))
+unfolding has
+returns-2 c = λ p k. set-none (λ x h. refuted (decides-eqb _ 1) (sym (c .before .has .ensures) ∙ not-true _ (c .if2 .taken)) (h .0 .1))
 
 search-requires : tie.Need-search-requires
 search-requires c κs = search needs
@@ -37,32 +29,31 @@ has-requires-2 : tie.Need-has-requires-2
 has-requires-2 c κs = search needs
 
 returns-3 : tie.Need-returns-3
-unfolding rule
-returns-3 c = set-none (λ x h. set-outside _ (c .before .has2 .ensures) (c .if3 .taken) (c .before .before .search .ensures) (h .covers-user))
+returns-3 c = λ p k.
+    set-none (λ x h. set-outside _ (c .before .has2 .ensures) (c .if3 .taken) (c .before .before .search .ensures p k) (h .1 .0))
 
 search-requires-2 : tie.Need-search-requires-2
 search-requires-2 c κs = search needs
 
 returns-4 : tie.Need-returns-4
-unfolding rule has
-returns-4 c =
+unfolding has
+returns-4 c = λ p k.
     set-as
-    (c .search2 .ensures)
-    (λ x r.
-    record {
-      used = not-false _ (c .before .before .before .before .before .before .before .if1 .left);
-      operation = eqb-true _ 1 (sym (c .before .before .before .before .before .has .ensures) ∙ not-false _ (c .before .before .before .before .if2 .left));
-      covers-user = set-inside _ (c .before .before .has2 .ensures) (c .before .if3 .left) (c .before .before .before .search .ensures);
-      covers-target = r;
-    })
-    (λ x h. h .covers-target)
+    (c .search2 .ensures p k)
+    (λ x r. (
+      (
+        not-false _ (c .before .before .before .before .before .before .before .if1 .left),
+        eqb-true _ 1
+            (sym (c .before .before .before .before .before .has .ensures) ∙ not-false _ (c .before .before .before .before .if2 .left)),
+      ),
+      (set-inside _ (c .before .before .has2 .ensures) (c .before .if3 .left) (c .before .before .before .search .ensures p k), r),
+    ))
+    (λ x h. h .1 .1)
 
 pub permitted-by-spec : {M : Type 1} → statement M
 permitted-by-spec =
     tie.close
     (tie.spec
-    mul-rule
-    array-copy-out-rule
     returns
     cast-has
     has-requires

@@ -1,0 +1,2 @@
+-- What is known of a request from check to check.
+pub mod Passing

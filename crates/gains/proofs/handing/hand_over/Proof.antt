@@ -1,0 +1,98 @@
+-- PUT is the kind that hands over; of the others the rule says that none does.
+use mathlib.Core.Path.{_≡_, sym, ap, subst}
+use denote.Ref.{now}
+use Rattle.rules.specs.declared.Request.{Request}
+use Rattle.rules.specs.Refusals.{handOver}
+use Rattle.checks.specs.Passing.{Authorised}
+use Rattle.gains.specs.Giving.{RowsFor}
+use borrow.Author.Needs.{needs}
+use Rattle.gains.proofs.handing.hand_over.Statement.{statement}
+use Rattle.gains.proofs.handing.hand_over.Tie as tie
+
+enum-known-q : tie.Need-enum-known-q
+enum-known-q c = search needs
+
+enum-known-q-2 : tie.Need-enum-known-q-2
+enum-known-q-2 c = search needs
+
+put-hands-over-requires : tie.Need-put-hands-over-requires
+put-hands-over-requires c κs = search needs
+
+enum-known-q-3 : tie.Need-enum-known-q-3
+enum-known-q-3 c = search needs
+
+enum-known-q-4 : tie.Need-enum-known-q-4
+enum-known-q-4 c = search needs
+
+enum-known-q-5 : tie.Need-enum-known-q-5
+enum-known-q-5 c = search needs
+
+enum-known-q-6 : tie.Need-enum-known-q-6
+enum-known-q-6 c = search needs
+
+enum-known-q-7 : tie.Need-enum-known-q-7
+enum-known-q-7 c = search needs
+
+enum-known-q-8 : tie.Need-enum-known-q-8
+enum-known-q-8 c = search needs
+
+returns : tie.Need-returns
+unfolding handOver
+returns c p m r q o = sym (ap (handOver p (c .before .before .before .args .u)) (c .before .q .given .1))
+
+returns-2 : tie.Need-returns-2
+unfolding RowsFor
+returns-2 c p m r q o =
+    let a = c .before .before .before .before .args in
+    let e = c .before .before .q2 .given .1 in
+    let k = subst (λ (r : Request). RowsFor p r (now (a .rows))) e r in
+    subst
+    (λ (r : Request). c .put-hands-over .result ≡ handOver p (a .u) r)
+    (sym e)
+    (c .put-hands-over .ensures p m k q (subst (λ (r : Request). Authorised p (a .u) r) e o))
+
+returns-3 : tie.Need-returns-3
+unfolding handOver
+returns-3 c p m r q o = sym (ap (handOver p (c .before .before .before .args .u)) (c .before .q3 .given .1))
+
+returns-4 : tie.Need-returns-4
+unfolding handOver
+returns-4 c p m r q o = sym (ap (handOver p (c .before .before .before .args .u)) (c .before .q4 .given .1))
+
+returns-5 : tie.Need-returns-5
+unfolding handOver
+returns-5 c p m r q o = sym (ap (handOver p (c .before .before .before .args .u)) (c .before .q5 .given .1))
+
+returns-6 : tie.Need-returns-6
+unfolding handOver
+returns-6 c p m r q o = sym (ap (handOver p (c .before .before .before .args .u)) (c .before .q6 .given .1))
+
+returns-7 : tie.Need-returns-7
+unfolding handOver
+returns-7 c p m r q o = sym (ap (handOver p (c .before .before .before .args .u)) (c .before .q7 .given .1))
+
+returns-8 : tie.Need-returns-8
+unfolding handOver
+returns-8 c p m r q o = sym (ap (handOver p (c .before .before .before .args .u)) (c .before .q8 .given .1))
+
+pub hand-over-spec : {M : Type 1} → statement M
+hand-over-spec =
+    tie.close
+    (tie.spec
+    enum-known-q
+    enum-known-q-2
+    put-hands-over-requires
+    enum-known-q-3
+    enum-known-q-4
+    enum-known-q-5
+    enum-known-q-6
+    enum-known-q-7
+    enum-known-q-8
+    returns
+    returns-2
+    returns-3
+    returns-4
+    returns-5
+    returns-6
+    returns-7
+    returns-8)

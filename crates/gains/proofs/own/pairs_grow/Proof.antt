@@ -1,0 +1,51 @@
+-- Without an appointment that grows there is no new pair, and else the pairs before and after tell.
+use borrow.Author.Tests.{not-true}
+use Rattle.reach.proofs.Testing.{refuted}
+use Rattle.gains.proofs.News.{decides-no}
+use Rattle.gains.proofs.Growing.{no-pair, pairs-tell}
+use borrow.Author.Needs.{needs}
+use Rattle.gains.proofs.own.pairs_grow.Statement.{statement}
+use Rattle.gains.proofs.own.pairs_grow.Tie as tie
+
+row-requires : tie.Need-row-requires
+row-requires c κs = search needs
+
+admin-grows-requires : tie.Need-admin-grows-requires
+admin-grows-requires c κs = search needs
+
+returns : tie.Need-returns
+returns c p k q o =
+    decides-no
+    (no-pair p _ _ _ o k (c .before .before .row .ensures) q
+    (refuted (c .before .admin-grows .ensures) (not-true _ (c .if1 .taken))))
+
+put-rows-requires : tie.Need-put-rows-requires
+put-rows-requires c κs = search needs
+
+administered-requires : tie.Need-administered-requires
+administered-requires c κs = search needs
+
+administered-requires-2 : tie.Need-administered-requires-2
+administered-requires-2 c κs = search needs
+
+new-pair-requires : tie.Need-new-pair-requires
+new-pair-requires c κs = search needs
+
+returns-2 : tie.Need-returns-2
+returns-2 c p k q o =
+    let had = c .before .before .before in
+    pairs-tell p _ _ _ o k (had .before .put-rows .ensures) q (had .administered .ensures) (c .before .administered2 .ensures)
+    (c .new-pair .ensures)
+
+pub pairs-grow-spec : {M : Type 1} → statement M
+pairs-grow-spec =
+    tie.close
+    (tie.spec
+    row-requires
+    admin-grows-requires
+    returns
+    put-rows-requires
+    administered-requires
+    administered-requires-2
+    new-pair-requires
+    returns-2)

@@ -1,0 +1,72 @@
+-- Without a rule that grows there is no new permission, and else the first one that is new after PUT tells.
+use mathlib.Core.Path.{subst}
+use borrow.Author.Tests.{not-true}
+use Rattle.reach.proofs.Testing.{refuted}
+use Rattle.gains.specs.Rows.{FirstNew}
+use Rattle.gains.proofs.News.{decides-yes, decides-no}
+use Rattle.gains.proofs.Growing.{no-permission, permission-found, permission-none}
+use borrow.Author.Needs.{needs}
+use Rattle.gains.proofs.own.permissions_grow.Statement.{statement}
+use Rattle.gains.proofs.own.permissions_grow.Tie as tie
+
+row-requires : tie.Need-row-requires
+row-requires c κs = search needs
+
+rule-grows-requires : tie.Need-rule-grows-requires
+rule-grows-requires c κs = search needs
+
+returns : tie.Need-returns
+returns c p m k q o =
+    decides-no
+    (no-permission p _ _ _ o k (c .before .before .row .ensures) q
+    (refuted (c .before .rule-grows .ensures) (not-true _ (c .if1 .taken))))
+
+put-rows-requires : tie.Need-put-rows-requires
+put-rows-requires c κs = search needs
+
+permitted-requires : tie.Need-permitted-requires
+permitted-requires c κs = search needs
+
+permitted-requires-2 : tie.Need-permitted-requires-2
+permitted-requires-2 c κs = search needs
+
+gained-requires : tie.Need-gained-requires
+gained-requires c κs = search needs
+
+enum-known-x : tie.Need-enum-known-x
+enum-known-x c = search needs
+
+enum-told : tie.Need-enum-told
+enum-told c = search needs
+
+returns-2 : tie.Need-returns-2
+returns-2 c p m k q o =
+    let got = c .before .before .before .before in
+    let had = got .before .before in
+    decides-yes
+    (permission-found p _ _ _ o k (had .before .put-rows .ensures) q (m .targets) (had .permitted .ensures) (got .permitted2 .ensures) _ _
+    (subst (FirstNew _ _) (c .before .x .given .1) (c .before .before .before .gained .ensures)))
+
+returns-3 : tie.Need-returns-3
+returns-3 c p m k q o =
+    let got = c .before .before .before in
+    let had = got .before .before in
+    decides-no
+    (permission-none p _ _ _ o k (had .before .put-rows .ensures) q (m .targets) (had .permitted .ensures) (got .permitted2 .ensures)
+    (subst (FirstNew _ _) (c .enum-told .given .1) (c .before .before .gained .ensures)))
+
+pub permissions-grow-spec : {M : Type 1} → statement M
+permissions-grow-spec =
+    tie.close
+    (tie.spec
+    row-requires
+    rule-grows-requires
+    returns
+    put-rows-requires
+    permitted-requires
+    permitted-requires-2
+    gained-requires
+    enum-known-x
+    enum-told
+    returns-2
+    returns-3)

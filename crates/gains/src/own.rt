@@ -1,0 +1,255 @@
+// Check 10: own gain, of the kinds that can have it.
+ghost use mathlib.Core.Path.{_≡_};
+ghost use lib.ListN.{getD};
+ghost use Rattle.reach.specs.Tests.{Some, Decides};
+ghost use Rattle.reach.specs.declared.Policy.{Policy};
+ghost use Rattle.reach.specs.Tables.{noAppointment, noRule};
+ghost use Rattle.reach.specs.Surveys.{MasksOf, ClosureOf, Whose};
+ghost use Rattle.rules.specs.declared.Request.the-variants.{Put, Appoint, Grant};
+ghost use Rattle.rules.specs.Refusals.{ownGain};
+ghost use Rattle.checks.specs.Passing.{Authorised};
+ghost use Rattle.gains.specs.Giving.{RowsFor, NewPair, NewPermission};
+ghost use Rattle.gains.specs.Rows.{Grows, AdminGrows, RuleGrows};
+use crate::Gain;
+use crate::rows::administered;
+use crate::rows::gained;
+use crate::rows::held;
+use crate::rows::new_pair;
+use crate::rows::permitted;
+use crate::rows::put_rows;
+use crate::rows::spread_eight;
+use reach::AccessRule;
+use reach::Appointment;
+use reach::Masks;
+use reach::closure;
+use reach::has;
+use reach::row;
+use reach::search;
+use rules::Request;
+
+// APPOINT gives its sender something exactly if he appoints himself to what he lacks.
+fn appoint_gains(
+    members: &[u64; 64],
+    m: Masks,
+    appointments: [Appointment; 32],
+    u: u8,
+    place: u8,
+    w: Appointment,
+) -> bool
+    ensures { λ r. ⌜ Whose (now (members .entry)) m (λ p.
+        p .appointments ≡ appointments → Authorised p u (Appoint place (w .kind) (w .holder) (w .a) (w .b)) →
+        r ≡ ownGain p u (Appoint place (w .kind) (w .holder) (w .a) (w .b))) ⌝ }
+{
+    if w.holder != u {
+        return false;
+    }
+    if w.kind == 2 {
+        return !has(reach::held(members, m, appointments, 2, u), w.a);
+    }
+    if w.kind == 3 {
+        return !has(reach::administered(members, m, appointments, u, w.a), w.b);
+    }
+    false
+}
+
+// GRANT can give permissions alone, and none to a sender who is not among its users.
+fn grant_gains(
+    members: &[u64; 64],
+    m: Masks,
+    rules: [AccessRule; 64],
+    u: u8,
+    place: u8,
+    users: u8,
+    targets: u8,
+    operations: u8,
+) -> bool
+    ensures { λ r. ⌜ Whose (now (members .entry)) m (λ p.
+        p .rules ≡ rules → Authorised p u (Grant place users targets operations) →
+        r ≡ ownGain p u (Grant place users targets operations)) ⌝ }
+{
+    if !has(search(members, m, users), u) {
+        return false;
+    }
+    let rows = closure(members, m);
+    let had = permitted(rules, &rows, m.targets, u);
+    let got = spread_eight(had, operations as u64, row(&rows, targets) & m.targets);
+    match gained(had, got) {
+        Gain::Permission(x, k) => true,
+        Gain::Nothing => false,
+    }
+}
+
+// Whether who has this set by appointments of one kind, or under one group, comes to have more of it, once what is below comes under g.
+fn grows(set: u64, g: u8, below: u64) -> bool
+    ensures { λ r. ⌜ Decides r (Grows set g below) ⌝ }
+{
+    if !has(set, g) {
+        return false;
+    }
+    below & !set != 0
+}
+
+// Whether this appointment, if it is an administrator's and u's, covers more, once what is below comes under g.
+fn admin_grows_by(w: Appointment, rows: &[u64; 64], u: u8, g: u8, below: u64) -> bool
+    ensures { λ r. ⌜ Decides r (AdminGrows w (now (rows .entry)) u g below) ⌝ }
+{
+    if w.kind != 3 {
+        return false;
+    }
+    if w.holder != u {
+        return false;
+    }
+    grows(row(rows, w.a), g, below) | grows(row(rows, w.b), g, below)
+}
+
+// Whether one of u's administrator appointments does.
+fn admin_grows(appointments: [Appointment; 32], rows: &[u64; 64], u: u8, g: u8, below: u64) -> bool
+    ensures { λ r. ⌜ Decides r (Some 32 (λ i. AdminGrows (getD appointments i noAppointment) (now (rows .entry)) u g below)) ⌝ }
+{
+    let mut i: usize = 0;
+    while i < 32 {
+        if admin_grows_by(appointments[i], rows, u, g, below) {
+            return true;
+        }
+        i += 1;
+    }
+    false
+}
+
+// Whether this rule, if it is in use, permits u more, once what is below comes under g: he comes among its users, or something under its
+// targets.
+fn rule_grows_by(rule: AccessRule, rows: &[u64; 64], u: u8, g: u8, below: u64) -> bool
+    ensures { λ r. ⌜ Decides r (RuleGrows rule (now (rows .entry)) u g below) ⌝ }
+{
+    if !rule.used {
+        return false;
+    }
+    let users = row(rows, rule.users);
+    if has(users, u) {
+        return grows(row(rows, rule.targets), g, below);
+    }
+    has(below, u) & has(users, g)
+}
+
+// Whether one of the rules does.
+fn rule_grows(rules: [AccessRule; 64], rows: &[u64; 64], u: u8, g: u8, below: u64) -> bool
+    ensures { λ r. ⌜ Decides r (Some 64 (λ i. RuleGrows (getD rules i noRule) (now (rows .entry)) u g below)) ⌝ }
+{
+    let mut i: usize = 0;
+    while i < 64 {
+        if rule_grows_by(rules[i], rows, u, g, below) {
+            return true;
+        }
+        i += 1;
+    }
+    false
+}
+
+// Whether PUT gives its sender a pair to administer: none without an appointment that grows, and else the pairs before and after tell.
+fn pairs_grow(
+    rows: &[u64; 64],
+    appointments: [Appointment; 32],
+    u: u8,
+    object: u8,
+    group: u8,
+) -> bool
+    ensures { λ r. ⌜ ((p : Policy) → ClosureOf p (now (rows .entry)) → p .appointments ≡ appointments →
+        Authorised p u (Put object group) → Decides r (NewPair p u (Put object group))) ⌝ }
+{
+    if !admin_grows(appointments, rows, u, group, row(rows, object)) {
+        return false;
+    }
+    let after = put_rows(rows, object, group);
+    let had = administered(appointments, rows, u);
+    let got = administered(appointments, &after, u);
+    new_pair(had, got)
+}
+
+// Whether PUT permits its sender more: the same with the rules.
+fn permissions_grow(
+    rows: &[u64; 64],
+    m: Masks,
+    rules: [AccessRule; 64],
+    u: u8,
+    object: u8,
+    group: u8,
+) -> bool
+    ensures { λ r. ⌜ ((p : Policy) → MasksOf p m → ClosureOf p (now (rows .entry)) → p .rules ≡ rules →
+        Authorised p u (Put object group) → Decides r (NewPermission p u (Put object group))) ⌝ }
+{
+    if !rule_grows(rules, rows, u, group, row(rows, object)) {
+        return false;
+    }
+    let after = put_rows(rows, object, group);
+    let had = permitted(rules, rows, m.targets, u);
+    let got = permitted(rules, &after, m.targets, u);
+    match gained(had, got) {
+        Gain::Permission(x, k) => true,
+        Gain::Nothing => false,
+    }
+}
+
+// PUT gives its sender what is below the object, wherever he has the group; and what follows for pairs and permissions.
+fn put_gains(
+    rows: &[u64; 64],
+    m: Masks,
+    appointments: [Appointment; 32],
+    rules: [AccessRule; 64],
+    u: u8,
+    object: u8,
+    group: u8,
+) -> bool
+    ensures { λ r. ⌜ ((p : Policy) → MasksOf p m → ClosureOf p (now (rows .entry)) → p .appointments ≡ appointments → p .rules ≡ rules →
+        Authorised p u (Put object group) → r ≡ ownGain p u (Put object group)) ⌝ }
+{
+    let below = row(rows, object);
+    if grows(held(appointments, rows, 1, u), group, below) {
+        return true;
+    }
+    if grows(held(appointments, rows, 2, u), group, below) {
+        return true;
+    }
+    if pairs_grow(rows, appointments, u, object, group) {
+        return true;
+    }
+    permissions_grow(rows, m, rules, u, object, group)
+}
+
+// Check 10.
+pub fn own_gain(
+    members: &[u64; 64],
+    m: Masks,
+    rows: &[u64; 64],
+    appointments: [Appointment; 32],
+    rules: [AccessRule; 64],
+    u: u8,
+    q: Request,
+) -> bool
+    ensures { λ r. ⌜ Whose (now (members .entry)) m (λ p.
+        RowsFor p q (now (rows .entry)) → p .appointments ≡ appointments → p .rules ≡ rules → Authorised p u q → r ≡ ownGain p u q) ⌝ }
+{
+    match q {
+        Request::Make { place, sort, group } => false,
+        Request::Put { object, group } => put_gains(rows, m, appointments, rules, u, object, group),
+        Request::Take { object, group } => false,
+        Request::Appoint {
+            place,
+            kind,
+            holder,
+            a,
+            b,
+        } => {
+            let w = Appointment { kind, holder, a, b };
+            appoint_gains(members, m, appointments, u, place, w)
+        },
+        Request::Dismiss { place } => false,
+        Request::Grant {
+            place,
+            users,
+            targets,
+            operations,
+        } => grant_gains(members, m, rules, u, place, users, targets, operations),
+        Request::Withdraw { place } => false,
+        Request::Use { target, operation } => false,
+    }
+}

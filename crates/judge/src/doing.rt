@@ -1,0 +1,49 @@
+// What an accepted request does.
+ghost use mathlib.Core.Path.{_≡_};
+ghost use Rattle.rules.specs.Doing.{after};
+ghost use Rattle.rules.specs.Judging.{doneBy};
+use reach::Appointment;
+use reach::Place;
+use reach::Policy;
+use rules::Request;
+use rules::Verdict;
+
+// The policy after a request, were it accepted.
+pub fn after(p: Policy, q: Request) -> Policy
+    ensures { λ r. ⌜ r ≡ after p q ⌝ }
+{
+    match q {
+        Request::Make { place, sort, group } => p.made(place, sort, group),
+        Request::Put { object, group } => p.put(object, group),
+        Request::Take { object, group } => p.taken(object, group),
+        Request::Appoint {
+            place,
+            kind,
+            holder,
+            a,
+            b,
+        } => {
+            let w = Appointment { kind, holder, a, b };
+            p.appointed(place, w)
+        },
+        Request::Dismiss { place } => p.dismissed(place),
+        Request::Grant {
+            place,
+            users,
+            targets,
+            operations,
+        } => p.granted(place, users, targets, operations),
+        Request::Withdraw { place } => p.withdrawn(place),
+        Request::Use { target, operation } => p,
+    }
+}
+
+// The verdict on an accepted request: a USE is done by the rule that permits it.
+pub fn done(by: Place) -> Verdict
+    ensures { λ r. ⌜ r ≡ doneBy by ⌝ }
+{
+    match by {
+        Place::At(i) => Verdict::DoneBy(i),
+        Place::Nothing => Verdict::Done,
+    }
+}

@@ -1,0 +1,27 @@
+-- On the table what stands there, and past it nothing.
+use mathlib.Core.Path.{_≡_, sym}
+use native.Mathlib.Omega.{arith}
+use lib.ListN.{length}
+use Rattle.reach.specs.Tables.{noRule}
+use Rattle.reach.proofs.Lists.{length-mapped, getD-past}
+use borrow.Author.Needs.{needs}
+use Rattle.reach.proofs.objects.rule_at.Statement.{statement}
+use Rattle.reach.proofs.objects.rule_at.Tie as tie
+
+mul-result : tie.Need-mul-result
+mul-result c = search needs
+
+array-copy-out-result : tie.Need-array-copy-out-result
+array-copy-out-result c = search needs
+
+returns : tie.Need-returns
+returns c = search needs
+
+returns-2 : tie.Need-returns-2
+returns-2 c =
+    let a = c .before .args in
+    let long : length (a .t1) ≡ 64 = search (needs, length-mapped) in
+    sym (getD-past (a .t1) (a .i) noRule (omega (arith, long, c .if1 .left)))
+
+pub rule-at-spec : {M : Type 1} → statement M
+rule-at-spec = tie.close (tie.spec mul-result array-copy-out-result returns returns-2)
