@@ -1,16 +1,16 @@
-//! The proved board held against the two judges of this package. Where they differ, the
+//! The proved board held against the three judges of this package. Where they differ, the
 //! records that show it are cut down to those that it needs.
 
 use crate::report::{lines, Next, Reader};
 use crate::sheet::{Sheet, PICTURE};
-use crate::{board, fast, plain};
+use crate::{board, fast, plain, sets};
 use std::fmt::Write;
 
-/// The three answers to one record, in the order of their names.
-pub struct Answers(pub [board::Answer; 3]);
+/// The four answers to one record, in the order of their names.
+pub struct Answers(pub [board::Answer; 4]);
 
 /// Who answers, in the order of `Answers`.
-const NAMES: [&str; 3] = ["board", "plain", "fast"];
+const NAMES: [&str; 4] = ["board", "plain", "sets", "fast"];
 
 impl Answers {
     pub fn to(picture: &[u8; PICTURE], record: &[u8]) -> Answers {
@@ -18,12 +18,13 @@ impl Answers {
         Answers([
             board::judge(picture, record),
             plain::judge(&sheet, record).into(),
+            sets::judge(&sheet, record).into(),
             fast::judge(&sheet, record).into(),
         ])
     }
 
     pub fn agree(&self) -> bool {
-        self.0[0] == self.0[1] && self.0[0] == self.0[2]
+        all_same(&self.0)
     }
 
     fn line(&self) -> String {
@@ -41,7 +42,7 @@ impl Answers {
     }
 }
 
-/// The answer of all three to one record on the sheet of a picture, or what shows that they
+/// The answer of all four to one record on the sheet of a picture, or what shows that they
 /// differ.
 pub fn single(picture: &[u8; PICTURE], record: &[u8]) -> Result<board::Answer, String> {
     let answers = Answers::to(picture, record);
@@ -53,7 +54,7 @@ pub fn single(picture: &[u8; PICTURE], record: &[u8]) -> Result<board::Answer, S
 }
 
 /// Runs a list from the founding, each record on the picture that the board returned for the
-/// one before, and hands each record and the answer of all three to `see`.
+/// one before, and hands each record and the answer of all four to `see`.
 pub fn each_record(
     records: &[Vec<u8>],
     mut see: impl FnMut(&[u8], &board::Answer),
@@ -71,7 +72,7 @@ pub fn each_record(
     Ok(())
 }
 
-/// Do the three differ on the last record of the list, and only there?
+/// Do the four differ on the last record of the list, and only there?
 fn differ_at_last(records: &[Vec<u8>]) -> bool {
     let mut picture = board::founding();
     for (index, record) in records.iter().enumerate() {
@@ -84,7 +85,7 @@ fn differ_at_last(records: &[Vec<u8>]) -> bool {
     false
 }
 
-/// The records with their three answers, one line for each.
+/// The records with their four answers, one line for each.
 fn show_list(records: &[Vec<u8>]) -> String {
     let mut text = "from the founding\n".to_string();
     let mut picture = board::founding();
@@ -96,16 +97,14 @@ fn show_list(records: &[Vec<u8>]) -> String {
     text
 }
 
-/// The lines of all three for these bytes, or what shows that they differ.
+/// The lines of all four for these bytes, or what shows that they differ.
 pub fn reports(input: &[u8]) -> Result<Vec<u8>, String> {
-    let [board, plain, fast] = texts(input);
-    if board == plain && board == fast {
+    let texts_of_all = texts(input);
+    if all_same(&texts_of_all) {
+        let [board, ..] = texts_of_all;
         return Ok(board);
     }
-    let parts = shortest(&parts(input), |parts| {
-        let [board, plain, fast] = texts(&parts.concat());
-        board != plain || board != fast
-    });
+    let parts = shortest(&parts(input), |parts| !all_same(&texts(&parts.concat())));
     let mut message = "the reports differ on\n".to_string();
     for part in &parts {
         writeln!(message, "{}", hex(part)).expect("a String takes all text");
@@ -117,10 +116,15 @@ pub fn reports(input: &[u8]) -> Result<Vec<u8>, String> {
     Err(message)
 }
 
-fn texts(input: &[u8]) -> [Vec<u8>; 3] {
+fn all_same<T: PartialEq>(many: &[T]) -> bool {
+    many.iter().all(|one| *one == many[0])
+}
+
+fn texts(input: &[u8]) -> [Vec<u8>; 4] {
     [
         board::report(input),
         lines(input, plain::judge).into_bytes(),
+        lines(input, sets::judge).into_bytes(),
         lines(input, fast::judge).into_bytes(),
     ]
 }

@@ -11,7 +11,8 @@ mod view;
 
 use crate::sheet::*;
 use crate::wide;
-use view::{at, bit, each, has, is_kind, is_sort, refuse_if, Join, View};
+use crate::words::{at, bit, each, has, is_kind, is_sort, refuse_if};
+use view::{Join, View};
 
 /// An accepted request's change of the sheet, and for USE the rule cited.
 enum Change {

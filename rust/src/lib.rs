@@ -1,6 +1,8 @@
 //! The sharing board, written a second time from document 01 alone, and held against the
-//! proved board byte for byte. Two judges: `plain` follows the text sentence by sentence,
-//! `fast` works on 64-bit sets. `board` is the proved one.
+//! proved board byte for byte. Three judges: `plain` follows the text sentence by sentence;
+//! `sets` is made for speed on 64-bit sets, and works its closure anew for each record; `fast`
+//! works no closure, but searches with wide registers for just what a record needs. `board` is
+//! the proved one.
 
 pub mod board;
 pub mod compare;
@@ -8,6 +10,8 @@ pub mod fast;
 pub mod generate;
 pub mod plain;
 pub mod report;
+pub mod sets;
 pub mod sheet;
 pub mod tally;
 mod wide;
+mod words;

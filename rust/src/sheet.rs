@@ -1,5 +1,5 @@
 //! The club sheet: three tables held by value, the founding, and a 960-byte picture of any
-//! sheet value, both ways. Nothing here judges; see `plain` and `fast`.
+//! sheet value, both ways. Nothing here judges; see `plain`, `sets` and `fast`.
 
 /// "64 objects, numbers 0 to 63."
 pub const OBJECTS: usize = 64;

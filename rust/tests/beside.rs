@@ -1,5 +1,6 @@
-//! The proved board, the plain judge and the fast one give the same answers: on streams from
-//! the founding, as reports and record by record, and on single requests on sheets of any value.
+//! The proved board and the judges of this package, the plain one, the one with sets and the
+//! fast one, give the same answers: on streams from the founding, as reports and record by
+//! record, and on single requests on sheets of any value.
 
 use beside::board;
 use beside::compare::{self, shortest};
@@ -25,7 +26,7 @@ fn streams() -> impl Iterator<Item = Vec<Vec<u8>>> {
     })
 }
 
-/// What all three agree on, or the end of the test with what shows a difference.
+/// What all four agree on, or the end of the test with what shows a difference.
 fn agreed<T>(compared: Result<T, String>) -> T {
     compared.unwrap_or_else(|difference| panic!("a difference\n{difference}"))
 }

@@ -5,10 +5,10 @@ use beside::board::{self, ANSWER};
 use beside::generate::{self, Profile, Rng};
 use beside::report::{lines, lines_into, report, MOST_BYTES};
 use beside::sheet::{Answer, Sheet, PICTURE};
-use beside::{fast, plain};
+use beside::{fast, plain, sets};
 
 type Judge = fn(&Sheet, &[u8]) -> Answer;
-const JUDGES: [Judge; 2] = [plain::judge, fast::judge];
+const JUDGES: [Judge; 3] = [plain::judge, sets::judge, fast::judge];
 
 /// The place of the rules in a picture, and of the code and the cited rule in an answer.
 const RULES_AT: usize = 704;
@@ -18,7 +18,7 @@ const CITED: usize = 961;
 /// What buffers are filled with, to see which bytes are written.
 const PAINT: u8 = 0xa5;
 
-/// All three print this text for the input.
+/// All four print this text for the input.
 fn assert_prints(input: &[u8], text: &str) {
     assert_eq!(String::from_utf8_lossy(&board::report(input)), text);
     for judge in JUDGES {
@@ -170,14 +170,15 @@ fn a_hundred_thousand_lines() {
 }
 
 /// A buffer too small gets the start of the text, to the byte; one too large stays as it is
-/// behind the text. The fast judge's lines in a buffer do likewise.
+/// behind the text. The lines of the judges for speed in a buffer do likewise.
 #[test]
 fn buffers_of_every_size() {
     let input = sample().concat();
     let text = sample_text(16);
+    let sets_into = |input: &[u8], out: &mut [u8]| lines_into(input, out, sets::judge_in_place);
     let fast_into = |input: &[u8], out: &mut [u8]| lines_into(input, out, fast::judge_in_place);
     for room in 0..text.len() + 9 {
-        for report_into in [board::report_into, fast_into] {
+        for report_into in [board::report_into, sets_into, fast_into] {
             let mut out = vec![PAINT; room + 4];
             let written = report_into(&input, &mut out[..room]);
             assert_eq!(written, room.min(text.len()));

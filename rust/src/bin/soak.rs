@@ -1,4 +1,4 @@
-//! Holds the proved board against both judges for a given time:
+//! Holds the proved board against the three judges of this package for a given time:
 //!
 //!     cargo run --release --bin soak -- SECONDS SEED
 //!
@@ -56,7 +56,7 @@ fn soak(time: Duration, seed: u64) -> Result<(), String> {
         }
     }
     println!(
-        "seed {seed}, {} s of work in {} s, no difference between the board, plain and fast",
+        "seed {seed}, {} s of work in {} s, no difference between the board, plain, sets and fast",
         worked().as_secs(),
         start.elapsed().as_secs()
     );
@@ -112,7 +112,7 @@ impl Done {
         )
     }
 
-    /// One stream: record by record, and as three reports.
+    /// One stream: record by record, and as four reports.
     fn stream(&mut self, rng: &mut Rng, profile: Profile) -> Result<(), String> {
         let count = 1 + rng.below(1500);
         let records = generate::stream(rng, profile, count, fast::judge);

@@ -3,6 +3,7 @@
 
 use crate::sheet::*;
 use crate::wide;
+use crate::words::{at, bit, each, has, refuse_if};
 
 /// A sheet, the sender, and the objects in use as sets: of each sort, and all.
 #[derive(Clone, Copy)]
@@ -241,55 +242,4 @@ impl<'a> View<'a> {
         let lacks = |k: usize| gear & !self.under(self.t_of(mine, k as u8), gear) != 0;
         gear != 0 && each(ops as u64).any(lacks)
     }
-}
-
-// ---- Small words ------------------------------------------------------------------------
-
-#[inline(always)]
-pub fn refuse_if(applies: bool, code: u8) -> Result<(), u8> {
-    if applies {
-        Err(code)
-    } else {
-        Ok(())
-    }
-}
-
-/// An object's number as an index; callers have it below 64.
-#[inline(always)]
-pub fn at(x: u8) -> usize {
-    x as usize % 64
-}
-
-#[inline(always)]
-pub fn bit(x: u8) -> u64 {
-    1 << (x % 64)
-}
-
-/// Is the number in the set? A number outside the table is in none.
-#[inline(always)]
-pub fn has(set: u64, x: u8) -> bool {
-    (x < 64) & (set >> (x % 64) & 1 == 1)
-}
-
-#[inline(always)]
-pub fn is_sort(sort: u8) -> bool {
-    (GROUP..=GEAR).contains(&sort)
-}
-
-#[inline(always)]
-pub fn is_kind(kind: u8) -> bool {
-    (OWNER..=ADMINISTRATOR).contains(&kind)
-}
-
-/// The numbers in a set, lowest first.
-#[inline(always)]
-pub fn each(mut set: u64) -> impl Iterator<Item = usize> {
-    std::iter::from_fn(move || {
-        if set == 0 {
-            return None;
-        }
-        let lowest = set.trailing_zeros() as usize;
-        set &= set - 1;
-        Some(lowest)
-    })
 }

@@ -1,7 +1,7 @@
 //! Each kind by itself, on one policy.
 
 use crate::club::{club, requests, Shape, Size, FULL, MIDDLING};
-use crate::timing::{call, Pair, Row, TORN};
+use crate::timing::{call, Row, Three, TORN};
 
 /// The two policies that the kinds are measured on.
 const SIZES: [Size; 2] = [MIDDLING, FULL];
@@ -32,11 +32,14 @@ pub fn print(rows: &[Row]) {
         let torn = rows[0].times[0].best();
         println!(
             "\nWith {} objects, {} appointments and {} rules in use; a torn record takes the board \
-             {:.0}, the fast judge {:.0}:\n",
-            size.objects, size.warrants, size.rules, torn.board, torn.fast
+             {:.0}, the judge with sets {:.0}, the fast judge {:.0}:\n",
+            size.objects, size.warrants, size.rules, torn.board, torn.sets, torn.fast
         );
-        println!("| Kind | Done: board | Fast | Ratio | No authority: board | Fast | Ratio |");
-        println!("|---|--:|--:|--:|--:|--:|--:|");
+        println!(
+            "| Kind | Done: board | Sets | Ratio | Fast | Ratio | \
+             No authority: board | Sets | Ratio | Fast | Ratio |"
+        );
+        println!("|---|{}", "--:|".repeat(10));
         for row in rows {
             let [torn, done, refused] = row.times[..] else {
                 unreachable!("three records are measured")
@@ -49,6 +52,6 @@ pub fn print(rows: &[Row]) {
     println!();
 }
 
-fn cells(pair: Pair) -> String {
-    format!("{:.0} | {:.0} | {:.1}", pair.board, pair.fast, pair.ratio())
+fn cells(three: Three) -> String {
+    format!("{:.0} | {}", three.board, three.beside_board())
 }

@@ -1,10 +1,11 @@
-//! Measures the proved board and the fast judge in one run, on the same bytes:
+//! Measures the proved board, the judge with sets and the fast judge in one run, on the same
+//! bytes:
 //!
 //!     cargo run --release --offline --bin bench
 //!
 //! It prints the tables of `docs/SPEED.md`. Everything is measured in several passes, in each of
-//! them in short turns, the board's and the fast judge's by turns; the shortest time of each
-//! counts. So noise hits both, and some turns are undisturbed.
+//! them in short turns, the three by turns; the shortest time of each counts. So noise hits all of
+//! them, and some turns are undisturbed.
 
 mod club;
 mod growth;

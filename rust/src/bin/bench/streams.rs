@@ -1,11 +1,11 @@
 //! The generator's streams: whole reports, and the judges alone.
 
-use crate::timing::{self, call, Row, Times, TORN};
+use crate::timing::{self, call, Row, Three, Times, TORN};
 use beside::board::{self, ANSWER};
-use beside::fast;
 use beside::generate::{self, Profile, Rng};
 use beside::report::{lines_into, Next, Reader};
 use beside::sheet::{Sheet, PICTURE};
+use beside::{fast, sets};
 use std::hint::black_box;
 
 const STREAMS: usize = 10;
@@ -27,42 +27,48 @@ pub fn print(rows: &[Row]) {
     println!("## Reports\n");
     println!("One call for {RECORDS} records, from the bytes to the text.\n");
     println!(
-        "| Streams | Board, a record | Fast | Ratio | Board, records/s | Fast | \
-         Worst stack: board | Fast | Ratio |"
+        "| Streams | Board, a record | Sets | Ratio | Fast | Ratio | \
+         Board, records/s | Sets | Fast | \
+         Worst stack: board | Sets | Ratio | Fast | Ratio |"
     );
-    println!("|---|--:|--:|--:|--:|--:|--:|--:|--:|");
+    println!("|---|{}", "--:|".repeat(13));
     for row in rows {
         let (best, worst) = (row.times[0].best(), row.times[0].worst());
         println!(
-            "| {} | {:.0} | {:.0} | {:.1} | {:.0} | {:.0} | {:.0} | {:.0} | {:.1} |",
+            "| {} | {:.0} | {} | {:.0} | {:.0} | {:.0} | {:.0} | {} |",
             row.name,
             best.board,
-            best.fast,
-            best.ratio(),
+            best.beside_board(),
             1e9 / best.board,
+            1e9 / best.sets,
             1e9 / best.fast,
             worst.board,
-            worst.fast,
-            worst.ratio()
+            worst.beside_board()
         );
     }
     println!("\n## The judge alone\n");
     println!(
         "One call for each record, on what the call before returned. The board reads and writes \
-         a picture in each call, the fast judge changes a sheet where it lies.\n"
+         a picture in each call, the judges beside it change a sheet where it lies.\n"
     );
-    println!("| Streams | Board, a call | Board, torn record | Difference | Fast | Ratio |");
-    println!("|---|--:|--:|--:|--:|--:|");
+    println!(
+        "| Streams | Board, a call | Board, torn record | Difference | \
+         Sets | Ratio | Fast | Ratio |"
+    );
+    println!("|---|{}", "--:|".repeat(7));
     for row in rows {
         let (call, torn) = (row.times[1].best(), row.times[2].best());
-        let net = call.board - torn.board;
+        let net = Three {
+            board: call.board - torn.board,
+            ..call
+        };
         println!(
-            "| {} | {:.0} | {:.0} | {net:.0} | {:.0} | {:.1} |",
+            "| {} | {:.0} | {:.0} | {:.0} | {} |",
             row.name,
             call.board,
             torn.board,
-            call.fast,
-            net / call.fast
+            net.board,
+            net.beside_board()
         );
     }
     println!();
@@ -81,12 +87,17 @@ pub fn streams(profile: Profile) -> Vec<Vec<u8>> {
 fn reports(streams: &[Vec<u8>]) -> Times {
     let longest = streams.iter().map(Vec::len).max().expect("streams");
     let mut board_text = vec![0; board::room(longest)];
+    let mut sets_text = board_text.clone();
     let mut fast_text = board_text.clone();
     mean(streams, |input| {
         timing::measure(
             RECORDS,
             || {
                 black_box(board::report_into(black_box(input), &mut board_text));
+            },
+            || {
+                let judge = sets::judge_in_place;
+                black_box(lines_into(black_box(input), &mut sets_text, judge));
             },
             || {
                 let judge = fast::judge_in_place;
@@ -103,7 +114,10 @@ fn calls(streams: &[Vec<u8>]) -> Times {
             RECORDS,
             || by_board(black_box(input)),
             || {
-                black_box(by_fast(black_box(input)));
+                black_box(by_judge(black_box(input), sets::judge_in_place));
+            },
+            || {
+                black_box(by_judge(black_box(input), fast::judge_in_place));
             },
         )
     })
@@ -111,7 +125,9 @@ fn calls(streams: &[Vec<u8>]) -> Times {
 
 /// Per call with a torn record, on the policies that the streams end with.
 fn torn_calls(streams: &[Vec<u8>]) -> Times {
-    mean(streams, |input| call(&by_fast(input), &TORN, 1))
+    mean(streams, |input| {
+        call(&by_judge(input, fast::judge_in_place), &TORN, 1)
+    })
 }
 
 fn mean(streams: &[Vec<u8>], measure: impl FnMut(&Vec<u8>) -> Times) -> Times {
@@ -132,11 +148,11 @@ fn by_board(input: &[u8]) {
 }
 
 /// The sheet after the stream.
-fn by_fast(input: &[u8]) -> Sheet {
+fn by_judge(input: &[u8], judge: impl Fn(&mut Sheet, &[u8]) -> (u8, u8)) -> Sheet {
     let mut sheet = Sheet::founding();
     let mut reader = Reader::new(input);
     while let Next::Record(record) = reader.next_record() {
-        black_box(fast::judge_in_place(&mut sheet, record));
+        black_box(judge(&mut sheet, record));
     }
     sheet
 }

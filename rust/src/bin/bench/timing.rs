@@ -1,13 +1,13 @@
-//! Time per call, the two taking turns.
+//! Time per call, the board and two judges taking turns.
 
 use beside::board::{self, ANSWER};
-use beside::fast;
 use beside::sheet::Sheet;
+use beside::{fast, sets};
 use std::array::from_fn;
 use std::hint::black_box;
 use std::time::Instant;
 
-/// How often each of the two has its turn at each shift of the stack in one pass.
+/// How often each of the three has its turn at each shift of the stack in one pass.
 pub const ROUNDS: usize = 5;
 
 /// Turns are taken with the stack moved by 0, 16, 32 and 48 bytes: how the judges' tables lie in
@@ -17,50 +17,52 @@ pub const SHIFTS: usize = 4;
 /// Calls in one turn on a single record: short turns, so that some are undisturbed.
 const CALLS: usize = 200;
 
-/// A record that both refuse at once.
+/// A record that all three refuse at once.
 pub const TORN: [u8; 3] = [0; 3];
 
-/// Nanoseconds of the board and of the fast judge.
+/// Nanoseconds of the board, of the judge with sets and of the fast judge.
 #[derive(Clone, Copy)]
-pub struct Pair {
+pub struct Three {
     pub board: f64,
+    pub sets: f64,
     pub fast: f64,
 }
 
-impl Pair {
-    const NEVER: Pair = Pair {
+impl Three {
+    const NEVER: Three = Three {
         board: f64::INFINITY,
+        sets: f64::INFINITY,
         fast: f64::INFINITY,
     };
 
-    /// How many times as long as the fast judge the board takes.
-    pub fn ratio(self) -> f64 {
-        self.board / self.fast
+    /// The times of the judges, behind each how many times as long the board takes.
+    pub fn beside_board(self) -> String {
+        let Three { board, sets, fast } = self;
+        let (to_sets, to_fast) = (board / sets, board / fast);
+        format!("{sets:.0} | {to_sets:.1} | {fast:.0} | {to_fast:.1}")
     }
 
     /// What is left of these times without those.
-    pub fn minus(self, less: Pair) -> Pair {
-        Pair {
-            board: self.board - less.board,
-            fast: self.fast - less.fast,
-        }
+    pub fn minus(self, less: Three) -> Three {
+        self.each(less, |time, less| time - less)
     }
 
-    fn each(self, other: Pair, which: fn(f64, f64) -> f64) -> Pair {
-        Pair {
-            board: which(self.board, other.board),
-            fast: which(self.fast, other.fast),
+    fn each(self, other: Three, of: fn(f64, f64) -> f64) -> Three {
+        Three {
+            board: of(self.board, other.board),
+            sets: of(self.sets, other.sets),
+            fast: of(self.fast, other.fast),
         }
     }
 }
 
 /// The shortest times at each shift of the stack.
 #[derive(Clone, Copy)]
-pub struct Times([Pair; SHIFTS]);
+pub struct Times([Three; SHIFTS]);
 
 impl Times {
     /// At the shift that suits each best.
-    pub fn best(&self) -> Pair {
+    pub fn best(&self) -> Three {
         self.0
             .into_iter()
             .reduce(|a, b| a.each(b, f64::min))
@@ -68,7 +70,7 @@ impl Times {
     }
 
     /// At the shift that suits each least.
-    pub fn worst(&self) -> Pair {
+    pub fn worst(&self) -> Three {
         self.0
             .into_iter()
             .reduce(|a, b| a.each(b, f64::max))
@@ -82,12 +84,13 @@ impl Times {
     }
 
     pub fn mean(many: &[Times]) -> Times {
-        let mean = |shift: usize, of: fn(Pair) -> f64| {
+        let mean = |shift: usize, of: fn(Three) -> f64| {
             many.iter().map(|times| of(times.0[shift])).sum::<f64>() / many.len() as f64
         };
-        Times(from_fn(|shift| Pair {
-            board: mean(shift, |pair| pair.board),
-            fast: mean(shift, |pair| pair.fast),
+        Times(from_fn(|shift| Three {
+            board: mean(shift, |three| three.board),
+            sets: mean(shift, |three| three.sets),
+            fast: mean(shift, |three| three.fast),
         }))
     }
 }
@@ -121,11 +124,17 @@ pub fn keep_shorter(rows: &mut [Row], again: Vec<Row>) {
 }
 
 /// Nanoseconds of one of `count` things that each of these calls does, in their quickest turns.
-pub fn measure(count: usize, mut board: impl FnMut(), mut fast: impl FnMut()) -> Times {
-    let mut times = Times([Pair::NEVER; SHIFTS]);
+pub fn measure(
+    count: usize,
+    mut board: impl FnMut(),
+    mut sets: impl FnMut(),
+    mut fast: impl FnMut(),
+) -> Times {
+    let mut times = Times([Three::NEVER; SHIFTS]);
     for _ in 0..ROUNDS {
-        times.keep_shorter(Times(from_fn(|shift| Pair {
+        times.keep_shorter(Times(from_fn(|shift| Three {
             board: shifted(shift, &mut board) / count as f64,
+            sets: shifted(shift, &mut sets) / count as f64,
             fast: shifted(shift, &mut fast) / count as f64,
         })));
     }
@@ -153,13 +162,14 @@ fn nanoseconds<const BYTES: usize>(call: &mut dyn FnMut()) -> f64 {
     time
 }
 
-/// Both judges on one record and the same policy over and over, each call with a whole policy
-/// in and a whole policy out: for the board a picture is read and one is written, for the fast
-/// judge the sheet is copied. Both have to give this code.
+/// All three on one record and the same policy over and over, each call with a whole policy in
+/// and a whole policy out: for the board a picture is read and one is written, for the judges
+/// the sheet is copied. All have to give this code.
 pub fn call(sheet: &Sheet, record: &[u8], code: u8) -> Times {
     let picture = sheet.picture();
     let answer = board::judge(&picture, record);
     assert_eq!(answer.code, code, "{record:?}");
+    assert_eq!(board::Answer::from(sets::judge(sheet, record)), answer);
     assert_eq!(board::Answer::from(fast::judge(sheet, record)), answer);
 
     let mut out = [0; ANSWER];
@@ -172,6 +182,11 @@ pub fn call(sheet: &Sheet, record: &[u8], code: u8) -> Times {
                     black_box(record),
                     black_box(&mut out),
                 ));
+            }
+        },
+        || {
+            for _ in 0..CALLS {
+                black_box(sets::judge(black_box(sheet), black_box(record)));
             }
         },
         || {
