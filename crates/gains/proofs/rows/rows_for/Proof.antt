@@ -1,5 +1,5 @@
--- PUT asks for the closure, and of the other kinds nothing is asked.
-use mathlib.Core.Path.{_≡_, sym, subst}
+-- PUT asks for the closure, and the other kinds get zeros.
+use mathlib.Core.Path.{_≡_, refl, sym, subst}
 use mathlib.Core.List.{List}
 use Prim.Native.Nat.{ℕ}
 use Rattle.reach.specs.declared.Policy.{Policy}
@@ -42,7 +42,7 @@ enum-known-q-8 c = search needs
 
 returns : tie.Need-returns
 unfolding RowsFor
-returns c p l = rows-of p _ (c .before .q .given .1) tt
+returns c p l = rows-of p _ (c .before .q .given .1) refl
 
 returns-2 : tie.Need-returns-2
 unfolding RowsFor
@@ -50,27 +50,27 @@ returns-2 c p l = rows-of p _ (c .before .before .q2 .given .1) (c .closure .ens
 
 returns-3 : tie.Need-returns-3
 unfolding RowsFor
-returns-3 c p l = rows-of p _ (c .before .q3 .given .1) tt
+returns-3 c p l = rows-of p _ (c .before .q3 .given .1) refl
 
 returns-4 : tie.Need-returns-4
 unfolding RowsFor
-returns-4 c p l = rows-of p _ (c .before .q4 .given .1) tt
+returns-4 c p l = rows-of p _ (c .before .q4 .given .1) refl
 
 returns-5 : tie.Need-returns-5
 unfolding RowsFor
-returns-5 c p l = rows-of p _ (c .before .q5 .given .1) tt
+returns-5 c p l = rows-of p _ (c .before .q5 .given .1) refl
 
 returns-6 : tie.Need-returns-6
 unfolding RowsFor
-returns-6 c p l = rows-of p _ (c .before .q6 .given .1) tt
+returns-6 c p l = rows-of p _ (c .before .q6 .given .1) refl
 
 returns-7 : tie.Need-returns-7
 unfolding RowsFor
-returns-7 c p l = rows-of p _ (c .before .q7 .given .1) tt
+returns-7 c p l = rows-of p _ (c .before .q7 .given .1) refl
 
 returns-8 : tie.Need-returns-8
 unfolding RowsFor
-returns-8 c p l = rows-of p _ (c .before .q8 .given .1) tt
+returns-8 c p l = rows-of p _ (c .before .q8 .given .1) refl
 
 pub rows-for-spec : {M : Type 1} → statement M
 rows-for-spec =
