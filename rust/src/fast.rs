@@ -30,13 +30,7 @@ type Verdict = Result<Change, u8>;
 /// "The judge takes a sheet and one record and returns the sheet after, a code (0 done, else a
 /// refusal) and a cited rule."
 pub fn judge(sheet: &Sheet, record: &[u8]) -> Answer {
-    let mut answer = Answer {
-        sheet: *sheet,
-        code: 0,
-        cited: NO_RULE,
-    };
-    (answer.code, answer.cited) = judge_in_place(&mut answer.sheet, record);
-    answer
+    Answer::of(judge_in_place, sheet, record)
 }
 
 /// The same with the sheet after written over the sheet before: the code and the cited rule.

@@ -64,6 +64,20 @@ pub struct Answer {
     pub cited: u8,
 }
 
+impl Answer {
+    /// The answer of a judge that writes the sheet after over the sheet before, and returns the
+    /// code and the cited rule.
+    pub fn of(
+        in_place: impl Fn(&mut Sheet, &[u8]) -> (u8, u8),
+        sheet: &Sheet,
+        record: &[u8],
+    ) -> Answer {
+        let mut sheet = *sheet;
+        let (code, cited) = in_place(&mut sheet, record);
+        Answer { sheet, code, cited }
+    }
+}
+
 impl Sheet {
     /// A sheet with every byte zero: no objects, no warrants, no rules.
     pub fn empty() -> Sheet {
