@@ -1,4 +1,3 @@
--- The laws by which the checks follow the rules, each file under its subject.
-pub mod Masking
-pub mod Naming
+-- The laws by which checks 9 and 12 follow the rules, each file under its subject.
+pub mod Governing
 pub mod Leaving

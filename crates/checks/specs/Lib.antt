@@ -1,2 +1,2 @@
--- What is known of a request from check to check.
-pub mod Passing
+-- Which rule permits a request.
+pub mod Permitting

@@ -12,7 +12,7 @@ use lib.Seq.{take-suc, take-all, getD-append-add}
 use Rattle.reach.specs.declared.Policy.{Policy}
 use Rattle.reach.specs.Tables.{Sized, noAppointment, noRule}
 use Rattle.frame.specs.Fields.{byte}
-use Rattle.list.specs.Runs.{Bytes}
+use Rattle.text.specs.Text.{Bytes}
 use Rattle.export.specs.Picture.{table, numberFrom, sortAt, rowAt, appointmentAt, ruleAt, policyOf}
 use Rattle.export.specs.Picture.{flat, bytesOf, rowBytes, appointmentBytes, mark, ruleBytes, pictureOf}
 use Rattle.export.proofs.Storing.{bytes-length}

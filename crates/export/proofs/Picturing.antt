@@ -12,7 +12,7 @@ use Rattle.reach.specs.Tables.{Sized}
 use Rattle.rules.specs.declared.Answer.{Answer}
 use Rattle.rules.specs.Judging.{codeOf, citedOf, judge}
 use Rattle.rules.proofs.TwoWordings.{judge-sized}
-use Rattle.list.specs.Runs.{Bytes}
+use Rattle.text.specs.Text.{Bytes}
 use Rattle.export.specs.Picture.{policyOf, flat, rowBytes, appointmentBytes, ruleBytes, pictureOf, answerBytes, fitting, Judged}
 use Rattle.export.proofs.Tabling.{table-length}
 use Rattle.export.proofs.Storing.{sets-append, sets-front, bytes-length, flat-length}

@@ -7,7 +7,7 @@ use native.Mathlib.Numerals.{add-one}
 use native.Mathlib.Omega.{arith}
 use lib.ListN.{length, drop, set, getD, length-set, length-append, drop-of-length-le}
 use lib.Seq.{drop-cons, sets, sets-eq, length-sets}
-use Rattle.list.specs.Runs.{Bytes}
+use Rattle.text.specs.Text.{Bytes}
 use Rattle.export.specs.Picture.{flat, bytesOf}
 
 -- Bytes stored, and others behind them, are all stored.

@@ -9,7 +9,7 @@ use lib.Dec.{lit<, lit≤}
 use lib.ListN.{length, take, set, length-set, length-append}
 use lib.Seq.{take-suc-set, take-all}
 use Rattle.frame.specs.Fields.{byte}
-use Rattle.list.specs.Runs.{Bytes}
+use Rattle.text.specs.Text.{Bytes}
 use Rattle.export.specs.Picture.{table, numberFrom}
 
 -- ---- Tables

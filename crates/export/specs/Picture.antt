@@ -15,7 +15,7 @@ use Rattle.reach.specs.Tests.{_⇒_∥_}
 use Rattle.frame.specs.Fields.{byte}
 use Rattle.rules.specs.declared.Answer.{Answer}
 use Rattle.rules.specs.Judging.{codeOf, citedOf, judge}
-use Rattle.list.specs.Runs.{Bytes}
+use Rattle.text.specs.Text.{Bytes}
 
 -- ---- The policy of a picture
 

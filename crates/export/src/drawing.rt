@@ -98,7 +98,7 @@ fn put_rules(out: &mut [u8], rules: [AccessRule; 64])
     }
 }
 
-// The whole policy.
+// The whole policy. Its caller has tested that there is room: a buffer that is too short gets nothing written, and is told so.
 pub fn put_policy(out: &mut [u8], p: Policy)
     requires { ⌜ 960 ≤ length (now out) ⌝ }
     ensures { λ _. ⌜ now (out .exit) ≡ sets (now (out .entry)) 0 (pictureOf p) ⌝ }

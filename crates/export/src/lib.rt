@@ -1,5 +1,5 @@
 // Selkaum for C and Rust: the entry points of a static library. No function asks anything of its caller beyond buffers that are there.
-ghost use Rattle.list.specs.Text.{Printed};
+ghost use Rattle.text.specs.Text.{Printed};
 ghost use Rattle.list.specs.Report.{report};
 ghost use Rattle.export.specs.Picture.{Judged};
 

@@ -35,7 +35,7 @@ use Rattle.rules.proofs.Fitting.{fits, may-appoint-decides}
 use Rattle.rules.proofs.Reading.{view-after}
 use Rattle.rules.proofs.Readings.{OwnAppointment, AppointGains, appoint-own-gain}
 use Rattle.gains.specs.declared.Gain.the-variants.{Permission, Nothing}
-use Rattle.checks.specs.Passing.{Cleared, Authorised}
+use Rattle.rules.specs.Cleared.{Cleared, Authorised}
 use Rattle.gains.specs.Rows.{PermittedAt, Joined, FirstNew}
 use Rattle.gains.proofs.Surveyed.{NewAt, in-under, under-in, permitted-table, gain-new, no-gain-new}
 

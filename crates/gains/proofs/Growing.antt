@@ -4,10 +4,11 @@ use mathlib.Core.Path.{_≡_, sym, ap, _∙_, subst}
 use mathlib.Core.Bool.{Bool, true}
 use mathlib.Core.List.{List}
 use mathlib.Core.Logic.{_⊎_, inl, inr, ⊎-elim}
-use Prim.Native.Nat.{ℕ}
+use Prim.Native.Nat.{ℕ, _<_}
 use native.Mathlib.Decide.{ℕ-discrete}
 use native.Mathlib.Omega.{arith}
 use lib.ListN.{getD}
+use lib.Bits.{bitAnd}
 use borrow.Author.Tests.{eqb-true}
 use Rattle.reach.specs.declared.Policy.{Policy}
 use Rattle.reach.specs.declared.Appointment.{Appointment}
@@ -15,12 +16,12 @@ use Rattle.reach.specs.declared.AccessRule.{AccessRule}
 use Rattle.reach.specs.Words.{bit, SetOf, TableOf}
 use Rattle.reach.specs.Tests.{Some, Decides}
 use Rattle.reach.specs.Tables.{View, noAppointment, noRule, view}
-use Rattle.reach.specs.Reach.{InUse, User, Target, Under}
-use Rattle.reach.specs.Privileges.{owner, manager, Holds, AdministersBy, Administers, PermitsBy, Permitted}
+use Rattle.reach.specs.Reach.{User, Target, Under}
+use Rattle.reach.specs.Privileges.{owner, manager, HoldsBy, Holds, AdministersBy, Administers, PermitsBy, Permitted}
 use Rattle.reach.specs.Surveys.{ClosureOf}
 use Rattle.reach.specs.Changes.{viewPut}
-use Rattle.reach.proofs.Testing.{decides-as, decides-same}
-use Rattle.reach.proofs.WordSets.{set-as}
+use Rattle.reach.proofs.Testing.{some-map, decides-as, decides-same}
+use Rattle.reach.proofs.WordSets.{set-as, set-mask, set-empty}
 use Rattle.reach.proofs.Reaching.{under-lower}
 use Rattle.reach.proofs.Chains.{in-use-below}
 use Rattle.reach.proofs.Frames.{put-keeps, put-adds, put-adds-only}
@@ -33,9 +34,9 @@ use Rattle.rules.specs.Allowing.{Privilege, owning, managing, administering, pe
 use Rattle.rules.proofs.Giving.{gives-decides}
 use Rattle.rules.proofs.Reading.{view-after}
 use Rattle.gains.specs.declared.Gain.the-variants.{Permission, Nothing}
-use Rattle.checks.specs.Passing.{Authorised}
-use Rattle.gains.specs.Giving.{NewPair, NewPermission}
-use Rattle.gains.specs.Rows.{In, AdministeredAt, PermittedAt, Joined, New, FirstNew, Grows, AdminGrows, RuleGrows}
+use Rattle.rules.specs.Cleared.{Authorised}
+use Rattle.gains.specs.Giving.{NewHeld, NewPair, NewHolding, NewPermission}
+use Rattle.gains.specs.Rows.{In, AdministeredAt, PermittedAt, Joined, New, FirstNew, Grows, AnyGrows, AdminGrows, RuleGrows}
 use Rattle.gains.proofs.Gaining.{fits-of}
 use Rattle.gains.proofs.Surveyed.{NewAt, in-under, under-in, administered-table, permitted-table}
 use Rattle.gains.proofs.Surveyed.{decides-new-pair, gain-new, no-gain-new}
@@ -95,12 +96,28 @@ module _ (p : Policy) (u x g : ℕ) (o : Authorised p u (Put x g)) {rows : List 
       ])
       (put-adds-only (view p) x g w)
 
-  -- ---- New pairs and permissions: none where nothing grows
+  -- ---- New holdings and permissions: none where nothing grows
 
   module _ {below : ℕ} (b : below ≡ getD rows x 0) where
+    -- What is said of no place of the list is said of no appointment of the policy.
+    no-at : (Q : Appointment → Type 0) {l : List Appointment} → p .appointments ≡ l → (Some 32 (λ i. Q (getD l i noAppointment)) → ⊥)
+        → {i : ℕ} → i < 32 → Q (view p .appointment i) → ⊥
+    no-at Q {l} q none {i} low h =
+        none
+        (record {
+          place = i;
+          low = low;
+          at = subst Q (appointment-is p i ∙ ap (λ (l : List Appointment). getD l i noAppointment) q) h;
+        })
+
+    -- Neither side of an appointment of the sender's grows, unless the appointment does.
+    no-side : (v : Appointment) → v .holder ≡ u → (AnyGrows v rows u g below → ⊥)
+        → Grows (getD rows (v .a) 0) g (getD rows x 0) ⊎ Grows (getD rows (v .b) 0) g (getD rows x 0) → ⊥
+    no-side v e none r = none (subst (AnyGrows v rows u g) (sym b) (record { is-holder = e; side = r }))
+
     pub no-pair : {l : List Appointment} → p .appointments ≡ l → (Some 32 (λ i. AdminGrows (getD l i noAppointment) rows u g below) → ⊥)
         → NewPair p u (Put x g) → ⊥
-    no-pair {l} q none w =
+    no-pair q none w =
         w .at .at .1
         (record {
           user = user;
@@ -112,8 +129,8 @@ module _ (p : Policy) (u x g : ℕ) (o : Authorised p u (Put x g)) {rows : List 
                     record {
                       is-kind = s .at .is-kind;
                       is-holder = s .at .is-holder;
-                      covers-a = kept _ (λ r. no-side (inl r)) (s .at .covers-a);
-                      covers-b = kept _ (λ r. no-side (inr r)) (s .at .covers-b);
+                      covers-a = kept _ (λ r. side (inl r)) (s .at .covers-a);
+                      covers-b = kept _ (λ r. side (inr r)) (s .at .covers-b);
                     };
               };
         })
@@ -121,78 +138,118 @@ module _ (p : Policy) (u x g : ℕ) (o : Authorised p u (Put x g)) {rows : List 
         s : Some 32 (AdministersBy (viewPut (view p) x g) u (w .place) (w .at .place))
         s = subst (λ (v : View). Administers v u (w .place) (w .at .place)) put-view (w .at .at .0) .by
 
-        v : Appointment
-        v = view p .appointment (s .place)
+        side : Grows (getD rows (view p .appointment (s .place) .a) 0) g (getD rows x 0)
+            ⊎ Grows (getD rows (view p .appointment (s .place) .b) 0) g (getD rows x 0) → ⊥
+        side =
+            no-side _ (s .at .is-holder)
+            (λ h. no-at (λ t. AdminGrows t rows u g below) q none (s .low) (s .at .is-kind, h))
 
-        same : v ≡ getD l (s .place) noAppointment
-        same = appointment-is p (s .place) ∙ ap (λ (l : List Appointment). getD l (s .place) noAppointment) q
+    -- Nor anything to own or to manage, where no appointment of the sender's grows.
+    module _ {l : List Appointment} (q : p .appointments ≡ l)
+        (none : Some 32 (λ i. AnyGrows (getD l i noAppointment) rows u g below) → ⊥) where
+      no-held : (kind : ℕ) → NewHeld kind p u (Put x g) → ⊥
+      no-held kind w =
+          w .at .1
+          (record {
+            user = user;
+            by =
+                record {
+                  place = s .place;
+                  low = s .low;
+                  at =
+                      record {
+                        is-kind = s .at .is-kind;
+                        is-holder = s .at .is-holder;
+                        covers =
+                            kept
+                            _
+                            (λ r. no-side _ (s .at .is-holder) (no-at (λ t. AnyGrows t rows u g below) q none (s .low)) (inl r))
+                            (s .at .covers);
+                      };
+                };
+          })
+        where
+          s : Some 32 (HoldsBy (viewPut (view p) x g) kind u (w .place))
+          s = subst (λ (v : View). Holds v kind u (w .place)) put-view (w .at .0) .by
 
-        no-side : Grows (getD rows (v .a) 0) g (getD rows x 0) ⊎ Grows (getD rows (v .b) 0) g (getD rows x 0) → ⊥
-        no-side r =
-            none
-            (record {
-              place = s .place;
-              low = s .low;
-              at =
-                  subst (λ (t : Appointment). AdminGrows t rows u g below) same
-                  (subst (AdminGrows v rows u g) (sym b) (record { is-kind = s .at .is-kind; is-holder = s .at .is-holder; side = r }));
-            })
+      pub no-holding : NewHolding p u (Put x g) → ⊥
+      no-holding w =
+          ⊎-elim (no-held owner)
+          (λ r. ⊎-elim (no-held manager) (no-pair q (λ s. none (some-map (λ i h. h .1) s))) r)
+          w
+
+    -- A new permission is by a rule that did not have both before PUT: the sender under its users, and the target under its targets.
+    module _ (w : NewPermission p u (Put x g)) where
+      got : Permitted (viewPut (view p) x g) u (w .place) (w .at .place)
+      got = subst (λ (v : View). Permitted v u (w .place) (w .at .place)) put-view (w .at .at .0)
+
+      by : Some 64 (PermitsBy (viewPut (view p) x g) u (w .place) (w .at .place))
+      by = got .by
+
+      abbrev rule : AccessRule
+      rule = view p .rule (by .place)
+
+      not-both : Under (view p) u (rule .users) → Under (view p) (w .at .place) (rule .targets) → ⊥
+      not-both i l =
+          w .at .at .1
+          (record {
+            user = user;
+            target = got .target;
+            number = got .number;
+            by =
+                record {
+                  place = by .place;
+                  low = by .low;
+                  at = record { used = by .at .used; operation = by .at .operation; covers-user = i; covers-target = l };
+                };
+          })
+
+    -- What is not below the object is after PUT only where it was.
+    unmoved : {y a : ℕ} → (bit below y ≡ 1 → ⊥) → Under (viewPut (view p) x g) y a → Under (view p) y a
+    unmoved {y} out l =
+        ⊎-elim
+        (λ i. i)
+        (λ i. absurd (out (ap (λ (r : ℕ). bit r y) b ∙ under-in p rows k (i .0))))
+        (put-adds-only (view p) x g l)
+
+    -- If neither a target nor the sender is below the object, none of them comes under the users or targets of a rule.
+    pub no-target : {all : ℕ} → SetOf all (Target (view p)) → bitAnd below all ≡ 0 → (bit below u ≡ 1 → ⊥)
+        → NewPermission p u (Put x g) → ⊥
+    no-target m none out w =
+        not-both
+        w
+        (unmoved out (by w .at .covers-user))
+        (unmoved (λ i. set-empty (set-mask below m) none (w .at .place) (i, got w .target)) (by w .at .covers-target))
 
     pub no-permission : {l : List AccessRule} → p .rules ≡ l → (Some 64 (λ i. RuleGrows (getD l i noRule) rows u g below) → ⊥)
         → NewPermission p u (Put x g) → ⊥
     no-permission {l} q none w =
-        w .at .at .1
-        (record {
-          user = user;
-          target = h .target;
-          number = h .number;
-          by =
-              record {
-                place = s .place;
-                low = s .low;
-                at =
-                    record {
-                      used = s .at .used;
-                      operation = s .at .operation;
-                      covers-user = among;
-                      covers-target = kept _ (λ r. still (inl (under-in p rows k among, r))) (s .at .covers-target);
-                    };
-              };
-        })
+        not-both w among (kept _ (λ r. still (inl (under-in p rows k among, r))) (by w .at .covers-target))
       where
-        h : Permitted (viewPut (view p) x g) u (w .place) (w .at .place)
-        h = subst (λ (v : View). Permitted v u (w .place) (w .at .place)) put-view (w .at .at .0)
+        same : rule w ≡ getD l (by w .place) noRule
+        same = rule-is p (by w .place) ∙ ap (λ (l : List AccessRule). getD l (by w .place) noRule) q
 
-        s : Some 64 (PermitsBy (viewPut (view p) x g) u (w .place) (w .at .place))
-        s = h .by
-
-        v : AccessRule
-        v = view p .rule (s .place)
-
-        same : v ≡ getD l (s .place) noRule
-        same = rule-is p (s .place) ∙ ap (λ (l : List AccessRule). getD l (s .place) noRule) q
-
-        still : (In rows (v .users) u × Grows (getD rows (v .targets) 0) g (getD rows x 0))
-            ⊎ ((In rows (v .users) u → ⊥) × (In rows x u × In rows (v .users) g)) → ⊥
+        still : (In rows (rule w .users) u × Grows (getD rows (rule w .targets) 0) g (getD rows x 0))
+            ⊎ ((In rows (rule w .users) u → ⊥) × (In rows x u × In rows (rule w .users) g)) → ⊥
         still r =
             none
             (record {
-              place = s .place;
-              low = s .low;
+              place = by w .place;
+              low = by w .low;
               at =
                   subst (λ (t : AccessRule). RuleGrows t rows u g below) same
-                  (subst (RuleGrows v rows u g) (sym b) (record { used = s .at .used; more = r }));
+                  (subst (RuleGrows (rule w) rows u g) (sym b) (record { used = by w .at .used; more = r }));
             })
 
-        among : Under (view p) u (v .users)
+        among : Under (view p) u (rule w .users)
         among =
             ⊎-elim (λ l. l)
             (λ l.
-            elim (ℕ-discrete (bit (getD rows (v .users) 0) u) 1) [
+            elim (ℕ-discrete (bit (getD rows (rule w .users) 0) u) 1) [
               | yes i ↦ in-under p rows k i
               | no out ↦ absurd (still (inr (out, (under-in p rows k (l .0), under-in p rows k (l .1)))))
             ])
-            (put-adds-only (view p) x g (s .at .covers-user))
+            (put-adds-only (view p) x g (by w .at .covers-user))
 
   -- ---- And else as the tables tell
 
@@ -235,8 +292,19 @@ module _ (p : Policy) (u x g : ℕ) (o : Authorised p u (Put x g)) {rows : List 
   unfolding ownGain
   given w = sym (gives-decides p n u .complete (subst (λ (v : View). Gives (view p) v u) (sym put-view) w))
 
-  pub pair-new : NewPair p u (Put x g) → true ≡ ownGain p u (Put x g)
-  pair-new w =
+  held-new : (kind : ℕ) (w : NewHeld kind p u (Put x g))
+      → NewAt (λ i y. Holds (view p) i u y) (λ i y. Holds (viewPut (view p) x g) i u y) kind (w .place)
+  held-new kind w =
+      subst (λ (v : View). NewAt (λ i y. Holds (view p) i u y) (λ i y. Holds v i u y) kind (w .place)) put-view (w .at)
+
+  pub holding-new : NewHolding p u (Put x g) → true ≡ ownGain p u (Put x g)
+  holding-new (inl w) =
+      let h = held-new owner w in
+      given (record { what = owning (w .place); there = under-lower (h .0 .by .at .covers); has = h .0; lacked = h .1 })
+  holding-new (inr (inl w)) =
+      let h = held-new manager w in
+      given (record { what = managing (w .place); there = under-lower (h .0 .by .at .covers); has = h .0; lacked = h .1 })
+  holding-new (inr (inr w)) =
       let h =
       subst (λ (v : View). NewAt (Administers (view p) u) (Administers v u) (w .place) (w .at .place)) put-view (w .at .at) in
       given
@@ -252,74 +320,72 @@ module _ (p : Policy) (u x g : ℕ) (o : Authorised p u (Put x g)) {rows : List 
       let h = subst (λ (v : View). NewAt (Permitted (view p) u) (Permitted v u) (w .place) (w .at .place)) put-view (w .at .at) in
       record { what = permission (w .place) (w .at .place); there = omega (arith, h .0 .target); has = h .0; lacked = h .1 }
 
-  module _ {below : ℕ} (b : below ≡ getD rows x 0) where
-    grown : (kind : ℕ) {set : ℕ} → SetOf set (Holds (view p) kind u) → Grows set g below
-        → (y : ℕ) × InUse (view p) y × Holds (viewPut (view p) x g) kind u y × (Holds (view p) kind u y → ⊥)
-    grown kind {set} s w =
-        let l = in-under p rows k (ap (λ (r : ℕ). bit r (w .1 .place)) (sym b) ∙ w .1 .at .now) in (
-          w .1 .place,
-          under-lower l,
-          holds-put-new (view p) x g (fit .1) l (s .only g (w .0)),
-          λ h. w .1 .at .lacked (s .all _ h),
-        )
+  -- What he holds in one way is more after PUT exactly if the set of it grows.
+  module _ {below : ℕ} (b : below ≡ getD rows x 0) (kind : ℕ) {set : ℕ} (s : SetOf set (Holds (view p) kind u)) where
+    pub held-grows : Grows set g below → NewHeld kind p u (Put x g)
+    held-grows w =
+        let y = w .1 .place in
+        let l = in-under p rows k (ap (λ (r : ℕ). bit r y) (sym b) ∙ w .1 .at .now) in
+        record {
+          place = y;
+          low = w .1 .low;
+          at = (
+            subst (λ (v : View). Holds v kind u y) (sym put-view) (holds-put-new (view p) x g (fit .1) l (s .only g (w .0))),
+            λ h. w .1 .at .lacked (s .all y h),
+          );
+        }
 
-    pub own-grows : {set : ℕ} → SetOf set (Holds (view p) owner u) → Grows set g below → true ≡ ownGain p u (Put x g)
-    own-grows s w =
-        let r = grown owner s w in
-        given (record { what = owning (r .0); there = r .1; has = r .2; lacked = r .3 })
-
-    pub managed-grows : {set : ℕ} → SetOf set (Holds (view p) manager u) → Grows set g below → true ≡ ownGain p u (Put x g)
-    managed-grows s w =
-        let r = grown manager s w in
-        given (record { what = managing (r .0); there = r .1; has = r .2; lacked = r .3 })
-
-    -- ---- And there is no other
-
-    no-growth : (kind : ℕ) {set : ℕ} → SetOf set (Holds (view p) kind u) → (Grows set g below → ⊥) → {y : ℕ}
-        → Holds (view n) kind u y → (Holds (view p) kind u y → ⊥) → ⊥
-    no-growth kind s none {y} h lacked =
-        ⊎-elim lacked
+    pub held-stays : (Grows set g below → ⊥) → NewHeld kind p u (Put x g) → ⊥
+    held-stays none w =
+        ⊎-elim
+        (w .at .1)
         (λ q.
         none (
           s .all g (q .1),
           record {
-            place = y;
-            low = in-use-below p y (under-lower (q .0));
+            place = w .place;
+            low = w .low;
             at =
                 record {
-                  now = ap (λ (r : ℕ). bit r y) b ∙ under-in p rows k (q .0);
-                  lacked = λ i. lacked (s .only y i);
+                  now = ap (λ (r : ℕ). bit r (w .place)) b ∙ under-in p rows k (q .0);
+                  lacked = λ i. w .at .1 (s .only (w .place) i);
                 };
           },
         ))
-        (holds-put (view p) x g (subst (λ (v : View). Holds v kind u y) put-view h))
+        (holds-put (view p) x g (subst (λ (v : View). Holds v kind u (w .place)) put-view (w .at .0)))
 
-    -- Where nothing that he holds grows, and no pair is new, own gain is what decides the permissions.
-    pub put-gain : {own managed : ℕ} → SetOf own (Holds (view p) owner u) → SetOf managed (Holds (view p) manager u)
-        → (Grows own g below → ⊥) → (Grows managed g below → ⊥) → (NewPair p u (Put x g) → ⊥)
-        → {t : Bool} → Decides t (NewPermission p u (Put x g)) → t ≡ ownGain p u (Put x g)
-    unfolding ownGain
-    put-gain s m no-own no-managed no-new {t} d =
-        decides-same t _ d
-        (decides-as
-        (gives-decides p n u)
-        (λ i. on (i .what) (i .has) (i .lacked))
-        (λ w. subst (λ (v : View). Gives (view p) v u) (sym put-view) (permission-gives w)))
-      where
-        on : (what : Privilege) → Has (view n) u what → (Has (view p) u what → ⊥) → NewPermission p u (Put x g)
-        on (owning y) has lacked = absurd (no-growth owner s no-own has lacked)
-        on (managing y) has lacked = absurd (no-growth manager m no-managed has lacked)
-        on (administering a c) has lacked =
-            absurd
-            (no-new
-            (record {
-              place = a;
-              low = in-use-below n a (under-lower (has .by .at .covers-a));
-              at = record { place = c; low = in-use-below n c (under-lower (has .by .at .covers-b)); at = (has, lacked) };
-            }))
-        on (permission i y) has lacked =
-            record {
-              place = i;
-              low = has .number;
-              at = record { place = y; low = in-use-below n y (omega (arith, has .target)); at = (has, lacked) };
-            }
+  -- ---- And there is no other
+
+  -- Where nothing that he holds is new, own gain is what decides the permissions.
+  pub put-gain : (NewHolding p u (Put x g) → ⊥) → {t : Bool} → Decides t (NewPermission p u (Put x g)) → t ≡ ownGain p u (Put x g)
+  unfolding ownGain
+  put-gain none {t} d =
+      decides-same t _ d
+      (decides-as
+      (gives-decides p n u)
+      (λ i. on (i .what) (i .has) (i .lacked))
+      (λ w. subst (λ (v : View). Gives (view p) v u) (sym put-view) (permission-gives w)))
+    where
+      held : (kind y : ℕ) → Holds (view n) kind u y → (Holds (view p) kind u y → ⊥) → NewHeld kind p u (Put x g)
+      held kind y has lacked =
+          record { place = y; low = in-use-below n y (under-lower (has .by .at .covers)); at = (has, lacked) }
+
+      on : (what : Privilege) → Has (view n) u what → (Has (view p) u what → ⊥) → NewPermission p u (Put x g)
+      on (owning y) has lacked = absurd (none (inl (held owner y has lacked)))
+      on (managing y) has lacked = absurd (none (inr (inl (held manager y has lacked))))
+      on (administering a c) has lacked =
+          absurd
+          (none
+          (inr
+          (inr
+          (record {
+            place = a;
+            low = in-use-below n a (under-lower (has .by .at .covers-a));
+            at = record { place = c; low = in-use-below n c (under-lower (has .by .at .covers-b)); at = (has, lacked) };
+          }))))
+      on (permission i y) has lacked =
+          record {
+            place = i;
+            low = has .number;
+            at = record { place = y; low = in-use-below n y (omega (arith, has .target)); at = (has, lacked) };
+          }

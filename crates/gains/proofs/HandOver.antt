@@ -22,7 +22,7 @@ use Rattle.reach.proofs.Carrying.{holds-put, holds-put-new}
 use Rattle.rules.specs.declared.Request.the-variants.{Put}
 use Rattle.rules.specs.Doing.{after}
 use Rattle.rules.specs.Refusals.{handOver}
-use Rattle.checks.specs.Passing.{Authorised}
+use Rattle.rules.specs.Cleared.{Authorised}
 use Rattle.rules.specs.Allowing.{HandsOver, Fits}
 use Rattle.gains.specs.Rows.{HeldAt, HandedBy}
 use Rattle.rules.proofs.Giving.{hands-over-decides}
@@ -50,7 +50,7 @@ module _ (p : Policy) (u x g : ℕ) (o : Authorised p u (Put x g)) {rows : List 
               there = under-lower l;
               gain = ⊎-elim (λ e. inl (new owner e)) (λ e. inr (new manager e)) (s .at .kind);
             };
-        not-own = f .only y (s .at .lacks .at .0) .1 .1;
+        not-own = f .only y (s .at .lacks .at .0 .now) .1 .1;
       }
     where
       w : Appointment
@@ -60,7 +60,7 @@ module _ (p : Policy) (u x g : ℕ) (o : Authorised p u (Put x g)) {rows : List 
       y = s .at .lacks .place
 
       l : Under (view p) y x
-      l = in-under p rows k (ap (λ (r : ℕ). bit r y) (sym b) ∙ f .only y (s .at .lacks .at .0) .0)
+      l = in-under p rows k (ap (λ (r : ℕ). bit r y) (sym b) ∙ f .only y (s .at .lacks .at .0 .now) .0)
 
       new : (kind : ℕ) → w .kind ≡ kind → Holds (viewPut (view p) x g) kind (w .holder) y × (Holds (view p) kind (w .holder) y → ⊥)
       new kind e = (
@@ -95,8 +95,20 @@ module _ (p : Policy) (u x g : ℕ) (o : Authorised p u (Put x g)) {rows : List 
                         place = h .what;
                         low = low;
                         at = (
-                          f .all (h .what)
-                              (ap (λ (r : ℕ). bit r (h .what)) b ∙ under-in p rows k (q .0), (low, h .not-own)),
+                          record {
+                            now =
+                                f .all (h .what)
+                                (ap (λ (r : ℕ). bit r (h .what)) b ∙ under-in p rows k (q .0), (low, h .not-own));
+                            lacked =
+                                λ i.
+                                lacked
+                                (held-is p rows k (q .1 .user)
+                                (record {
+                                  place = s .place;
+                                  low = s .low;
+                                  at = record { is-kind = s .at .is-kind; is-holder = s .at .is-holder; covers = i };
+                                }));
+                          },
                           λ t.
                               lacked
                               (held-is p rows k (q .1 .user)

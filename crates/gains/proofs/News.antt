@@ -20,6 +20,10 @@ new-set had got h g =
     (λ x w. record { now = w .0; lacked = w .1 .1 })
     (λ x n. (n .now, (set-below (set-bits got g) x (n .now), n .lacked)))
 
+-- The same, where what was had is known by a word equal to it.
+pub new-of : {r s : ℕ} (got : ℕ) → r ≡ s → r < 2 ^ 64 → got < 2 ^ 64 → SetOf (bitAnd got (2 ^ 64 - 1 - r)) (New s got)
+new-of {r} got e h g = subst (λ (s : ℕ). SetOf (bitAnd got (2 ^ 64 - 1 - r)) (New s got)) e (new-set r got h g)
+
 pub news-yes : (had got : ℕ) → had < 2 ^ 64 → got < 2 ^ 64 → (bitAnd got (2 ^ 64 - 1 - had) ≡ 0 → ⊥) → Some 64 (New had got)
 news-yes had got h g n =
     let r = set-lowest (new-set had got h g) n in record { place = _; low = r .0; at = r .1 }

@@ -1,16 +1,29 @@
 -- What a request would give, as checks 10 and 11 look for it.
 use mathlib.Core.Path.{_≡_}
+use mathlib.Core.Bool.{Bool, true, false}
 use mathlib.Core.List.{List}
+use mathlib.Core.Logic.{_⊎_}
 use Prim.Native.Nat.{ℕ}
 use lib.ListN.{replicate}
 use Rattle.reach.specs.declared.Policy.{Policy}
 use Rattle.reach.specs.Tests.{Some}
 use Rattle.reach.specs.Tables.{view}
-use Rattle.reach.specs.Privileges.{Administers, Permitted}
+use Rattle.reach.specs.Privileges.{owner, manager, Holds, Administers, Permitted}
 use Rattle.reach.specs.Surveys.{ClosureOf}
 use Rattle.rules.specs.declared.Request.{Request}
 use Rattle.rules.specs.declared.Request.the-variants.{Make, Put, Take, Appoint, Dismiss, Grant, Withdraw, Use}
 use Rattle.rules.specs.Doing.{after}
+
+-- The request is a PUT.
+abbrev pub isPut : Request → Bool
+isPut (Make i s g) = false
+isPut (Put x g) = true
+isPut (Take x g) = false
+isPut (Appoint i k h a b) = false
+isPut (Dismiss i) = false
+isPut (Grant i u t o) = false
+isPut (Withdraw i) = false
+isPut (Use x k) = false
 
 -- The rows are the closure, where the request is a PUT; the other kinds do without, and have zeros.
 unfoldable pub RowsFor : Policy → Request → List ℕ → Type 0
@@ -23,9 +36,16 @@ RowsFor p (Grant i u t o) l = l ≡ replicate 64 0
 RowsFor p (Withdraw i) l = l ≡ replicate 64 0
 RowsFor p (Use x k) l = l ≡ replicate 64 0
 
--- A pair, or a permission, that u has once the request is done and lacks before.
+-- An object that u holds in one way, a pair that he administers, or a permission, that he has once the request is done and lacks before.
+abbrev pub NewHeld : ℕ → Policy → ℕ → Request → Type 0
+NewHeld kind p u q = Some 64 (λ x. Holds (view (after p q)) kind u x × (Holds (view p) kind u x → ⊥))
+
 abbrev pub NewPair : Policy → ℕ → Request → Type 0
 NewPair p u q = Some 64 (λ a. Some 64 (λ b. Administers (view (after p q)) u a b × (Administers (view p) u a b → ⊥)))
 
 abbrev pub NewPermission : Policy → ℕ → Request → Type 0
 NewPermission p u q = Some 8 (λ k. Some 64 (λ x. Permitted (view (after p q)) u k x × (Permitted (view p) u k x → ⊥)))
+
+-- Something that u comes to own, to manage or to administer.
+abbrev pub NewHolding : Policy → ℕ → Request → Type 0
+NewHolding p u q = NewHeld owner p u q ⊎ (NewHeld manager p u q ⊎ NewPair p u q)

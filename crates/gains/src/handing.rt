@@ -7,7 +7,7 @@ ghost use Rattle.reach.specs.Tables.{noAppointment};
 ghost use Rattle.reach.specs.Surveys.{MasksOf, ClosureOf};
 ghost use Rattle.rules.specs.declared.Request.the-variants.{Put};
 ghost use Rattle.rules.specs.Refusals.{handOver};
-ghost use Rattle.checks.specs.Passing.{Authorised};
+ghost use Rattle.rules.specs.Cleared.{Authorised};
 ghost use Rattle.gains.specs.Giving.{RowsFor};
 ghost use Rattle.gains.specs.Rows.{HandedBy};
 use crate::rows::held;
@@ -18,7 +18,7 @@ use reach::row;
 use rules::Request;
 
 // Whether the holder of this appointment, an owner's or a manager's, who has g by it, would come to hold some of the free objects that he
-// does not hold by that kind yet.
+// does not hold by that kind yet. What he has by this very appointment is taken off first: nearly always that leaves nothing.
 fn handed_by(
     appointments: [Appointment; 32],
     rows: &[u64; 64],
@@ -35,15 +35,21 @@ fn handed_by(
     if !has(users, w.holder) {
         return false;
     }
-    if !has(row(rows, w.a), g) {
+    let had = row(rows, w.a);
+    if !has(had, g) {
         return false;
     }
-    free & !held(appointments, rows, w.kind, w.holder) != 0
+    let more = free & !had;
+    if more == 0 {
+        return false;
+    }
+    more & !held(appointments, rows, w.kind, w.holder) != 0
 }
 
 // Whether some user comes to own or manage one of the free objects.
 fn handed(appointments: [Appointment; 32], rows: &[u64; 64], users: u64, g: u8, free: u64) -> bool
-    ensures { λ r. ⌜ Decides r (Some 32 (λ i. HandedBy appointments (now (rows .entry)) users (getD appointments i noAppointment) g free)) ⌝ }
+    ensures { λ r. ⌜ Decides r (Some 32 (λ i.
+        HandedBy appointments (now (rows .entry)) users (getD appointments i noAppointment) g free)) ⌝ }
 {
     let mut i: usize = 0;
     while i < 32 {

@@ -7,9 +7,9 @@ ghost use Rattle.reach.specs.Tables.{noAppointment, noRule};
 ghost use Rattle.reach.specs.Surveys.{MasksOf, ClosureOf, Whose};
 ghost use Rattle.rules.specs.declared.Request.the-variants.{Put, Appoint, Grant};
 ghost use Rattle.rules.specs.Refusals.{ownGain};
-ghost use Rattle.checks.specs.Passing.{Authorised};
-ghost use Rattle.gains.specs.Giving.{RowsFor, NewPair, NewPermission};
-ghost use Rattle.gains.specs.Rows.{Grows, AdminGrows, RuleGrows};
+ghost use Rattle.rules.specs.Cleared.{Authorised};
+ghost use Rattle.gains.specs.Giving.{RowsFor, NewPair, NewHolding, NewPermission};
+ghost use Rattle.gains.specs.Rows.{Grows, AnyGrows, AdminGrows, RuleGrows};
 use crate::Gain;
 use crate::rows::administered;
 use crate::rows::gained;
@@ -89,6 +89,31 @@ fn grows(set: u64, g: u8, below: u64) -> bool
     below & !set != 0
 }
 
+// Whether this appointment is u's and what is under its A or B grows, once what is below comes under g. Of whatever kind: where none does,
+// nothing that u holds grows.
+fn grows_by(w: Appointment, rows: &[u64; 64], u: u8, g: u8, below: u64) -> bool
+    ensures { λ r. ⌜ Decides r (AnyGrows w (now (rows .entry)) u g below) ⌝ }
+{
+    if w.holder != u {
+        return false;
+    }
+    grows(row(rows, w.a), g, below) | grows(row(rows, w.b), g, below)
+}
+
+// Whether one of u's appointments does.
+fn some_grow(appointments: [Appointment; 32], rows: &[u64; 64], u: u8, g: u8, below: u64) -> bool
+    ensures { λ r. ⌜ Decides r (Some 32 (λ i. AnyGrows (getD appointments i noAppointment) (now (rows .entry)) u g below)) ⌝ }
+{
+    let mut i: usize = 0;
+    while i < 32 {
+        if grows_by(appointments[i], rows, u, g, below) {
+            return true;
+        }
+        i += 1;
+    }
+    false
+}
+
 // Whether this appointment, if it is an administrator's and u's, covers more, once what is below comes under g.
 fn admin_grows_by(w: Appointment, rows: &[u64; 64], u: u8, g: u8, below: u64) -> bool
     ensures { λ r. ⌜ Decides r (AdminGrows w (now (rows .entry)) u g below) ⌝ }
@@ -96,10 +121,7 @@ fn admin_grows_by(w: Appointment, rows: &[u64; 64], u: u8, g: u8, below: u64) ->
     if w.kind != 3 {
         return false;
     }
-    if w.holder != u {
-        return false;
-    }
-    grows(row(rows, w.a), g, below) | grows(row(rows, w.b), g, below)
+    grows_by(w, rows, u, g, below)
 }
 
 // Whether one of u's administrator appointments does.
@@ -165,7 +187,32 @@ fn pairs_grow(
     new_pair(had, got)
 }
 
-// Whether PUT permits its sender more: the same with the rules.
+// Whether PUT gives its sender something to own, to manage or to administer: nothing, if no appointment of his grows, and nearly always
+// that is so; else what he has by them tells.
+fn holdings_grow(
+    rows: &[u64; 64],
+    appointments: [Appointment; 32],
+    u: u8,
+    object: u8,
+    group: u8,
+) -> bool
+    ensures { λ r. ⌜ ((p : Policy) → ClosureOf p (now (rows .entry)) → p .appointments ≡ appointments →
+        Authorised p u (Put object group) → Decides r (NewHolding p u (Put object group))) ⌝ }
+{
+    let below = row(rows, object);
+    if !some_grow(appointments, rows, u, group, below) {
+        return false;
+    }
+    if grows(held(appointments, rows, 1, u), group, below) {
+        return true;
+    }
+    if grows(held(appointments, rows, 2, u), group, below) {
+        return true;
+    }
+    pairs_grow(rows, appointments, u, object, group)
+}
+
+// Whether PUT permits its sender more: nothing, if neither a target nor he himself is below the object; else the same with the rules.
 fn permissions_grow(
     rows: &[u64; 64],
     m: Masks,
@@ -177,7 +224,11 @@ fn permissions_grow(
     ensures { λ r. ⌜ ((p : Policy) → MasksOf p m → ClosureOf p (now (rows .entry)) → p .rules ≡ rules →
         Authorised p u (Put object group) → Decides r (NewPermission p u (Put object group))) ⌝ }
 {
-    if !rule_grows(rules, rows, u, group, row(rows, object)) {
+    let below = row(rows, object);
+    if (below & m.targets == 0) & !has(below, u) {
+        return false;
+    }
+    if !rule_grows(rules, rows, u, group, below) {
         return false;
     }
     let after = put_rows(rows, object, group);
@@ -189,7 +240,7 @@ fn permissions_grow(
     }
 }
 
-// PUT gives its sender what is below the object, wherever he has the group; and what follows for pairs and permissions.
+// PUT gives its sender what is below the object, wherever he has the group; and what follows for permissions.
 fn put_gains(
     rows: &[u64; 64],
     m: Masks,
@@ -202,14 +253,7 @@ fn put_gains(
     ensures { λ r. ⌜ ((p : Policy) → MasksOf p m → ClosureOf p (now (rows .entry)) → p .appointments ≡ appointments → p .rules ≡ rules →
         Authorised p u (Put object group) → r ≡ ownGain p u (Put object group)) ⌝ }
 {
-    let below = row(rows, object);
-    if grows(held(appointments, rows, 1, u), group, below) {
-        return true;
-    }
-    if grows(held(appointments, rows, 2, u), group, below) {
-        return true;
-    }
-    if pairs_grow(rows, appointments, u, object, group) {
+    if holdings_grow(rows, appointments, u, object, group) {
         return true;
     }
     permissions_grow(rows, m, rules, u, object, group)

@@ -6,7 +6,7 @@ ghost use lib.ListN.{getD};
 ghost use Rattle.reach.specs.Words.{bit, SetOf, TableOf};
 ghost use Rattle.reach.specs.Tests.{Some, Decides};
 ghost use Rattle.reach.specs.Surveys.{Whose};
-ghost use Rattle.gains.specs.Giving.{RowsFor};
+ghost use Rattle.gains.specs.Giving.{isPut, RowsFor};
 ghost use Rattle.gains.specs.Rows.{In, HeldAt, AdministeredAt, PermittedAt, Joined, New, FirstNew};
 use crate::Gain;
 use reach::AccessRule;
@@ -28,10 +28,10 @@ fn only_if(passed: bool, set: u64) -> u64
 fn held_by(w: Appointment, rows: &[u64; 64], kind: u8, u: u8) -> u64
     ensures { λ r. ⌜ SetOf r (λ x. ((w .kind ≡ kind) × (w .holder ≡ u)) × In (now (rows .entry)) (w .a) x) ⌝ }
 {
-    if w.kind != kind {
+    if w.holder != u {
         return 0;
     }
-    if w.holder != u {
+    if w.kind != kind {
         return 0;
     }
     row(rows, w.a)
@@ -81,10 +81,10 @@ fn administered_by(pairs: [u64; 64], rows: &[u64; 64], w: Appointment, u: u8) ->
     ensures { λ r. ⌜ Joined 64 pairs (λ a b. ((w .kind ≡ 3) × (w .holder ≡ u)) × (In (now (rows .entry)) (w .a) a ×
         In (now (rows .entry)) (w .b) b)) r ⌝ }
 {
-    if w.kind != 3 {
+    if w.holder != u {
         return pairs;
     }
-    if w.holder != u {
+    if w.kind != 3 {
         return pairs;
     }
     spread(pairs, row(rows, w.a), row(rows, w.b))
@@ -213,29 +213,28 @@ pub fn gained(had: [u64; 8], got: [u64; 8]) -> Gain
     first_gain(had, got)
 }
 
+// Whether the request is a PUT.
+fn is_put(q: Request) -> bool
+    ensures { λ r. ⌜ r ≡ isPut q ⌝ }
+{
+    match q {
+        Request::Make { .. } => false,
+        Request::Put { .. } => true,
+        Request::Take { .. } => false,
+        Request::Appoint { .. } => false,
+        Request::Dismiss { .. } => false,
+        Request::Grant { .. } => false,
+        Request::Withdraw { .. } => false,
+        Request::Use { .. } => false,
+    }
+}
+
 // What is under each object, where the request is a PUT: what the checks 10 and 11 of a PUT ask again and again.
 pub fn rows_for(members: &[u64; 64], m: Masks, q: Request) -> [u64; 64]
     ensures { λ r. ⌜ Whose (now (members .entry)) m (λ p. RowsFor p q r) ⌝ }
 {
-    match q {
-        Request::Make { place, sort, group } => [0u64; 64],
-        Request::Put { object, group } => closure(members, m),
-        Request::Take { object, group } => [0u64; 64],
-        Request::Appoint {
-            place,
-            kind,
-            holder,
-            a,
-            b,
-        } => [0u64; 64],
-        Request::Dismiss { place } => [0u64; 64],
-        Request::Grant {
-            place,
-            users,
-            targets,
-            operations,
-        } => [0u64; 64],
-        Request::Withdraw { place } => [0u64; 64],
-        Request::Use { target, operation } => [0u64; 64],
+    if !is_put(q) {
+        return [0u64; 64];
     }
+    closure(members, m)
 }

@@ -7,6 +7,8 @@ use mathlib.Core.Logic.{⊎-elim}
 use Prim.Native.Nat.{ℕ, zero, suc, _+_, _<_}
 use native.Mathlib.Nat.{not-suc-le-zero}
 use native.Mathlib.Omega.{arith}
+use borrow.Author.Tests.{eq-eqb, ne-eqb}
+use lib.Dec.{eqb}
 use lib.ListN.{length, getD}
 use Rattle.reach.specs.declared.Policy.{Policy}
 use Rattle.reach.specs.Tests.{_⇒_∥_}
@@ -22,7 +24,7 @@ use Rattle.rules.specs.Refusals.{torn, unknown, misfit, stranger, offTheSheet, 
 use Rattle.rules.specs.Refusals.{handOver, orphan}
 use Rattle.rules.specs.Judging.{codeOf, doneBy, done, verdictOn, verdict, accepted, judge}
 use Rattle.rules.proofs.Table.{done-accepted}
-use Rattle.checks.specs.Passing.{permittingRule}
+use Rattle.checks.specs.Permitting.{permittingRule}
 use Rattle.judge.specs.Answering.{answered}
 
 abbrev tests : Policy → List ℕ → ℕ → Request → List Bool
@@ -65,21 +67,6 @@ first-none (t ∷ ts) (v ∷ vs) d none =
     let f : t ≡ false = none zero (omega arith) in
     rw f (first-none ts vs d (λ i h. none (suc i) (omega (arith, h))))
 
--- Each refusal of the list is one.
-AllRefuse : List Verdict → Type 0
-AllRefuse [] = Unit {0}
-AllRefuse (v ∷ vs) = (accepted v ≡ false) × AllRefuse vs
-
-refuse-at : (vs : List Verdict) → AllRefuse vs → (d : Verdict) (n : ℕ) → n < length vs → accepted (getD vs n d) ≡ false
-unfolding AllRefuse
-refuse-at [] a d n l = absurd (not-suc-le-zero l)
-refuse-at (v ∷ vs) a d zero l = a .0
-refuse-at (v ∷ vs) a d (suc n) l = refuse-at vs (a .1) d n (omega (arith, l))
-
-all-refuse : AllRefuse refusals
-unfolding AllRefuse codeOf
-all-refuse = (refl, (refl, (refl, (refl, (refl, (refl, (refl, (refl, (refl, (refl, (refl, (refl, tt {0}))))))))))))
-
 -- None of the checks before n applies. Counted from 0, so that n have passed.
 pub record Passed (p : Policy) (b : List ℕ) (u : ℕ) (q : Request) (n : ℕ) : Type 0 where
   pub none : NoneOf (tests p b u q) n
@@ -99,29 +86,21 @@ pass {p} {b} {u} {q} {n} k e =
           (below-next i n l);
     }
 
--- ---- The judge's answer
+-- ---- The verdict
 
 module _ (p : Policy) (b : List ℕ) (u : ℕ) (q : Request) (e : u ≡ sender b) (f : q ≡ request b) where
   table : verdict p b ≡ first (tests p b u q) refusals (done p u q)
   unfolding verdict verdictOn first
   table = rw (e, f)
 
-  refused : (r : Verdict) → verdict p b ≡ r → accepted r ≡ false → answered p r ≡ judge p b
-  unfolding judge
-  refused r v a = rw (v, a)
-
   -- The first test that holds refuses.
-  pub judge-stops : (n : ℕ) → n < 12 → Passed p b u q n → getD (tests p b u q) n false ≡ true
-      → answered p (getD refusals n (done p u q)) ≡ judge p b
-  judge-stops n l k t =
-      refused _ (table ∙ first-at (tests p b u q) refusals (done p u q) n l (k .none) t) (refuse-at refusals all-refuse (done p u q) n l)
+  pub verdict-stops : (n : ℕ) → n < 12 → Passed p b u q n → getD (tests p b u q) n false ≡ true
+      → getD refusals n (done p u q) ≡ verdict p b
+  verdict-stops n l k t = sym (table ∙ first-at (tests p b u q) refusals (done p u q) n l (k .none) t)
 
   -- Where no test holds the request is done.
-  pub judge-done : Passed p b u q 12 → record { policy = after p q; verdict = done p u q } ≡ judge p b
-  unfolding judge
-  judge-done k =
-      let v : verdict p b ≡ done p u q = table ∙ first-none (tests p b u q) refusals (done p u q) (k .none) in
-      rw (v, done-accepted p u q, f)
+  pub verdict-done : Passed p b u q 12 → done p u q ≡ verdict p b
+  verdict-done k = sym (table ∙ first-none (tests p b u q) refusals (done p u q) (k .none))
 
 -- The verdict on an accepted request is that of the rule that permits it, if it is a USE.
 pub done-is : (p : Policy) (u : ℕ) (q : Request) → doneBy (permittingRule p u q) ≡ done p u q
@@ -134,3 +113,18 @@ done-is p u (Dismiss i) = refl
 done-is p u (Grant i v t o) = refl
 done-is p u (Withdraw i) = refl
 done-is p u (Use x k) = refl
+
+-- ---- The answer
+
+-- With the verdict goes the policy after, if the code is 0, and else the policy as it was.
+module _ (p : Policy) (b : List ℕ) {v : Verdict} {n : ℕ} (e : v ≡ verdict p b) (c : n ≡ codeOf v) where
+  code : eqb n 0 ≡ accepted (verdict p b)
+  code = rw (c, e)
+
+  pub judge-accepts : n ≡ 0 → {q : Request} → q ≡ request b → answered (after p q) v ≡ judge p b
+  unfolding judge
+  judge-accepts z f = let a : accepted (verdict p b) ≡ true = sym code ∙ eq-eqb _ _ z in rw (a, e, f)
+
+  pub judge-refuses : (n ≡ 0 → ⊥) → answered p v ≡ judge p b
+  unfolding judge
+  judge-refuses z = let a : accepted (verdict p b) ≡ false = sym code ∙ ne-eqb _ _ z in rw (a, e)

@@ -15,7 +15,8 @@ use mathlib.Core.Logic.{_⊎_, ⊎-elim}
 use Prim.Native.Nat.{ℕ, suc, _<_}
 use Rattle.rules.specs.Allowing.{Gives, HandsOver, Owned, viewAfter}
 use Rattle.rules.proofs.Steps.{Holders, step-owned, step-holders, step-no-gain, step-no-hand}
-use Rattle.list.specs.Runs.{Bytes, run, before, end, recordAt}
+use Rattle.text.specs.Text.{Bytes}
+use Rattle.list.specs.Runs.{run, before, end, recordAt}
 use Rattle.list.specs.Demand.{Demand3, FoundingDemand3}
 use Rattle.list.proofs.Positions.{Next, did, turned-away, next, kept, as-allowed}
 use Rattle.list.proofs.Tracing.{permission-line}

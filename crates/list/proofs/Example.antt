@@ -11,7 +11,8 @@ use Rattle.reach.proofs.Deciding.{permitted-decides}
 use Rattle.rules.specs.declared.Request.the-variants.{Use}
 use Rattle.rules.specs.Sample.{records}
 use Rattle.rules.proofs.Answered.{computed}
-use Rattle.list.specs.Runs.{Bytes, run, policyAt, end, Done}
+use Rattle.text.specs.Text.{Bytes}
+use Rattle.list.specs.Runs.{run, policyAt, end, Done}
 use Rattle.list.specs.Lines.{PermissionLine}
 use Rattle.list.proofs.Demanded.{third}
 

@@ -9,7 +9,7 @@ use lib.ListN.{length, take, drop, length-append}
 use lib.Seq.{drop-at, take-at}
 use borrow.Author.Tests.{le-leb, lt-leb}
 use Rattle.reach.specs.Tests.{_⇒_∥_}
-use Rattle.list.specs.Runs.{Bytes}
+use Rattle.text.specs.Text.{Bytes}
 use Rattle.list.specs.Parts.{part, parts, handed}
 
 -- A part that lies in the bytes.

@@ -16,7 +16,8 @@ use Rattle.rules.specs.declared.Request.{Request}
 use Rattle.rules.specs.declared.Request.the-variants.{Take, Dismiss, Withdraw}
 use Rattle.rules.specs.Allowing.{Standing, Allowed, viewAfter}
 use Rattle.rules.proofs.Staying.{appointment-stays, rule-stays, direct-stays, appointing-appoints, granting-grants, made-in, put-in}
-use Rattle.list.specs.Runs.{Bytes, before, end, Done, NotDone}
+use Rattle.text.specs.Text.{Bytes}
+use Rattle.list.specs.Runs.{before, end, Done, NotDone}
 use Rattle.list.specs.Lines.{AppointmentLine, MembershipLine, RuleLine}
 use Rattle.list.proofs.Positions.{Next, did, turned-away, next, as-allowed}
 

@@ -16,7 +16,8 @@ use Rattle.rules.specs.Allowing.{viewAfter, Allowed}
 use Rattle.rules.proofs.Table.{refused-same, answers-next}
 use Rattle.rules.proofs.TwoWordings.{judge-decides, judge-after, judge-sized}
 use Rattle.rules.proofs.Verdicts.{accepted-code, refused-code}
-use Rattle.list.specs.Runs.{Bytes, run, policyAt, before, end, recordAt, Done}
+use Rattle.text.specs.Text.{Bytes}
+use Rattle.list.specs.Runs.{run, policyAt, before, end, recordAt, Done}
 
 run-append : (p : Policy) (xs ys : List Bytes) → run p (xs ++ ys) ≡ run (run p xs) ys
 unfolding run

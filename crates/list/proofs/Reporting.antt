@@ -8,19 +8,20 @@ use lib.ListN.{length, take, drop, length-append}
 use borrow.Author.Tests.{lt-ltb, le-ltb}
 use Rattle.reach.specs.declared.Policy.{Policy}
 use Rattle.reach.specs.Tests.{_⇒_∥_}
-use Rattle.reach.specs.Tables.{initial}
+use Rattle.reach.specs.declared.Masks.{Masks}
+use Rattle.reach.specs.Tables.{Sized, initial}
+use Rattle.reach.specs.Surveys.{MasksOf}
 use Rattle.frame.specs.declared.Step.the-variants.{Record, Torn, End}
 use Rattle.frame.specs.Reading.{stepAt, recordBytes, recordsFrom, tornFrom}
 use Rattle.frame.proofs.Steps.{Found, step-record, step-torn}
 use Rattle.frame.proofs.Records.{records-of-record, torn-of-record, records-of-torn, torn-of-torn, records-of-end, torn-of-end}
-use Rattle.rules.specs.declared.Answer.{Answer}
-use Rattle.rules.specs.Judging.{codeOf, citedOf, judge, numbersOf, answers}
-use Rattle.rules.proofs.Table.{answers-none, answers-next}
-use Rattle.list.specs.Runs.{Bytes}
-use Rattle.list.specs.Text.{line, lines, tornPlace, Wrote, Printed}
+use Rattle.rules.specs.declared.Verdict.{Verdict}
+use Rattle.rules.specs.Judging.{codeOf, citedOf, verdict, judge, numbersOf, answers}
+use Rattle.rules.proofs.Table.{judge-verdict, answers-none, answers-next}
+use Rattle.text.specs.Text.{Bytes, line, lines, tornPlace, Wrote, Printed}
 use Rattle.list.specs.Report.{answersFrom, report, tooLong, output}
-use Rattle.list.proofs.Writing.{wrote-none, wrote-as, printed-of-wrote}
-use Rattle.list.proofs.Printing.{lines-none, wrote-next-line}
+use Rattle.text.proofs.Writing.{wrote-none, wrote-as, printed-of-wrote}
+use Rattle.text.proofs.Printing.{lines-none, wrote-next-line}
 
 -- ---- The answers from a position on go by the step there
 
@@ -74,20 +75,23 @@ module _ (b out₀ : Bytes) where
     unfolding report
     whole l e w = printed-of-wrote (wrote-as (ap (lines 0) e) w)
 
-    pub reporting-record : {out′ : Bytes} {r start len next : ℕ} (a : Answer) (code cite : ℕ) → stepAt b at ≡ Record start len next
-        → a ≡ judge p (take (next - start) (drop start b))
-        → code ≡ codeOf (a .verdict) → cite ≡ citedOf (a .verdict)
+    pub reporting-record : {out′ : Bytes} {r start len next : ℕ} (v : Verdict) (p′ : Policy) (code cite : ℕ)
+        → stepAt b at ≡ Record start len next
+        → v ≡ verdict p (take (next - start) (drop start b))
+        → p′ ≡ judge p (take (next - start) (drop start b)) .policy
+        → code ≡ codeOf v → cite ≡ citedOf v
         → Wrote out n (line index code cite) out′ r
-        → Reporting out′ (a .policy) next (index + 1) r
-    reporting-record {start = start} {len} {next} a code cite e j f g w =
+        → Reporting out′ p′ next (index + 1) r
+    reporting-record {start = start} {len} {next} v p′ code cite e j h f g w =
         let found : Found b at start len next = step-record b at start len next e in
         let long : next - start ≡ len = omega (arith, found .ends) in
+        let said : v ≡ judge p (take (next - start) (drop start b)) .verdict = j ∙ sym (judge-verdict p _) in
         record {
           so-far = s .so-far ++ ((code, cite) ∷ []);
           count = simp (length-append, s .count);
           wrote = next-line code cite w;
           to-come =
-              rw (append-assoc, f, g, j, long)
+              rw (append-assoc, f, g, said, h, long)
               (ap (λ (l : List (ℕ × ℕ)). s .so-far ++ l) (sym (answers-of-record p b at start len next e)) ∙ s .to-come);
           index-low = omega (arith, s .index-low, found .long);
           within = found .within;
@@ -107,6 +111,16 @@ module _ (b out₀ : Bytes) where
         (s .so-far)
         (sym (append-nil (s .so-far)) ∙ ap (λ (l : List (ℕ × ℕ)). s .so-far ++ l) (sym (answers-of-end p b at e)) ∙ s .to-come)
         (s .wrote)
+
+-- ---- What is known of the policy from record to record
+
+-- Its masks, which are worked anew for MAKE alone, and that its tables have their sizes.
+pub record Kept (p : Policy) (m : Masks) : Type 0 where
+  pub masks : MasksOf p m
+  pub sized : Sized p
+
+pub kept-as : {p p′ : Policy} {m m′ : Masks} → p′ ≡ p → m′ ≡ m → Kept p m → Kept p′ m′
+kept-as {p} {p′} {m} {m′} e f k = subst (λ (q : Policy). Kept q m′) (sym e) (subst (λ (n : Masks). Kept p n) (sym f) k)
 
 -- ---- The limit on the input
 

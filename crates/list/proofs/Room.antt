@@ -13,63 +13,19 @@ use Rattle.reach.specs.Tests.{_⇒_∥_}
 use Rattle.reach.specs.Tables.{initial}
 use Rattle.frame.specs.Reading.{recordsFrom, tornFrom}
 use Rattle.frame.proofs.Records.{records-few}
-use Rattle.rules.specs.Judging.{judge, answers}
+use Rattle.rules.specs.declared.Verdict.the-variants.{Torn}
+use Rattle.rules.specs.Judging.{codeOf, citedOf, judge, numbersOf, answers}
 use Rattle.rules.proofs.Table.{answers-none, answers-next}
 use Rattle.rules.proofs.Bounded.{code-bounded, cited-bounded}
-use Rattle.list.specs.Runs.{Bytes}
-use Rattle.list.specs.Text.{line, lines, tornPlace, Printed}
+use Rattle.text.specs.Text.{Bytes, line, lines, tornPlace, Printed}
 use Rattle.list.specs.Report.{answersFrom, report, tooLong, output}
-use Rattle.list.proofs.Decimals.{decimal-length}
-use Rattle.list.proofs.Writing.{printed-all}
+use Rattle.text.proofs.Lengths.{Bounded, bounded-torn, lines-fit, torn-lines-fit}
+use Rattle.text.proofs.Writing.{printed-all}
 
--- A line takes at most 13 bytes.
-pub line-length : (index code cited : ℕ)
-    → index < 100000
-    → code < 100
-    → cited < 1000
-    → length (line index code cited) ≤ 13
-unfolding line
-line-length index code cited h k l =
-    simp length-append (omega (arith, decimal-length 4 index h, decimal-length 1 code k, decimal-length 2 cited l))
-
--- Each code is one of document 01's, 0 to 12, and what it cites is a byte.
-abbrev pub Bounded : List (ℕ × ℕ) → Type 0
-Bounded [] = Unit {0}
-Bounded ((code, cited) ∷ rest) = (code ≤ 12) × (cited ≤ 255) × Bounded rest
-
--- A torn place keeps the bounds.
-pub bounded-torn : (l : List (ℕ × ℕ)) → Bounded l → Bounded (l ++ (tornPlace ∷ []))
-bounded-torn [] b = (omega arith, omega arith, tt)
-bounded-torn (_ ∷ rest) b = (b .0, b .1, bounded-torn rest (b .2))
-
--- The lines of a list whose indices stay below 100,000.
-lines-length-from : (i : ℕ) (l : List (ℕ × ℕ))
-    → Bounded l
-    → i + length l ≤ 100000
-    → length (lines i l) ≤ 13 * length l
-unfolding lines
-lines-length-from i [] b h = zero-le
-lines-length-from i ((code, cited) ∷ rest) b h =
-    let first = line-length i code cited (omega arith) (omega (arith, b .0)) (omega (arith, b .1)) in
-    let others = lines-length-from (suc i) rest (b .2) (omega arith) in
-    simp length-append (omega arith)
-
--- From index 0, with one line more than there can be records.
-pub lines-length : (l : List (ℕ × ℕ)) → Bounded l → length l ≤ 16385 → length (lines 0 l) ≤ 13 * length l
-lines-length l b h = lines-length-from 0 l b (omega arith)
-
--- Enough for an input with no torn place: its records, of 4 bytes or more each, are all of it.
-pub lines-fit : (l : List (ℕ × ℕ)) → Bounded l → 4 * length l ≤ 65536 → length (lines 0 l) ≤ 212992
-lines-fit l b h = omega (arith, lines-length l b (omega arith))
-
--- Enough for an input that is torn: behind its records there is a byte or more.
-pub torn-lines-fit : (l : List (ℕ × ℕ))
-    → Bounded l
-    → 4 * length l < 65536
-    → length (lines 0 (l ++ (tornPlace ∷ []))) ≤ 212992
-torn-lines-fit l b h =
-    let one-more : length (l ++ (tornPlace ∷ [])) ≡ length l + 1 = simp length-append in
-    omega (arith, lines-length (l ++ (tornPlace ∷ [])) (bounded-torn l b) (omega arith))
+-- The numbers of a torn place are those of the verdict torn.
+pub torn-numbers : tornPlace ≡ numbersOf Torn
+unfolding codeOf citedOf
+torn-numbers = refl
 
 -- The answers of a list are bounded, and as many as its records.
 answers-bounded : (p : Policy) (bs : List Bytes) → Bounded (answers p bs)

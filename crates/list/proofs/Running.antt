@@ -16,7 +16,8 @@ use Rattle.rules.specs.declared.Answer.{Answer}
 use Rattle.rules.specs.Judging.{codeOf, citedOf, judge, answers}
 use Rattle.rules.proofs.Table.{answers-none, answers-next}
 use Rattle.list.specs.declared.Outcome.{Outcome}
-use Rattle.list.specs.Runs.{Bytes, run}
+use Rattle.text.specs.Text.{Bytes}
+use Rattle.list.specs.Runs.{run}
 use Rattle.list.specs.Parts.{part, parts, handed}
 use Rattle.list.specs.Filling.{codesOf, citesOf, over, room, RunInto}
 use Rattle.list.proofs.Handed.{parts-length}

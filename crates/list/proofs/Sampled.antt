@@ -6,8 +6,7 @@ use Prim.Native.Nat.{ℕ}
 use Rattle.frame.specs.Reading.{stepAt, recordsWithin, tornWithin, recordsFrom, tornFrom}
 use Rattle.rules.specs.Sample.{records, further}
 use Rattle.rules.proofs.Answered.{computed}
-use Rattle.list.specs.Runs.{Bytes}
-use Rattle.list.specs.Text.{digits, decimal, line, lines}
+use Rattle.text.specs.Text.{Bytes, digits, decimal, line, lines}
 use Rattle.list.specs.Report.{answersFrom, report, output}
 use Rattle.list.proofs.Handed.{joined}
 

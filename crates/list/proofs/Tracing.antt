@@ -16,9 +16,11 @@ use Rattle.reach.specs.Privileges.{owner, manager, administrator, Holds, Owns, 
 use Rattle.reach.proofs.Carrying.{known-kind}
 use Rattle.rules.specs.declared.Request.{Request}
 use Rattle.rules.specs.declared.Request.the-variants.{Make, Put, Take, Dismiss, Withdraw}
-use Rattle.rules.specs.Allowing.{Standing, MayAppoint, as-owner as may-as-owner, as-manager as may-as-manager, Governs, Allowed, appointing, granting}
+use Rattle.rules.specs.Allowing.{Standing, MayAppoint, as-owner as may-as-owner, as-manager as may-as-manager, Governs, Allowed, appointing}
+use Rattle.rules.specs.Allowing.{granting}
 use Rattle.rules.proofs.Origins.{AppointmentFrom, appointment-from, RuleFrom, rule-from, DirectFrom, direct-from}
-use Rattle.list.specs.Runs.{Bytes, before, end, Done, NotDone}
+use Rattle.text.specs.Text.{Bytes}
+use Rattle.list.specs.Runs.{before, end, Done, NotDone}
 use Rattle.list.specs.Lines.{Each, AppointmentLine, GovernsLine, MembershipLine, RuleLine, PermissionLine}
 use Rattle.list.proofs.Positions.{Next, did, turned-away, next, same-request}
 

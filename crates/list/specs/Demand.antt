@@ -11,7 +11,8 @@ use Rattle.reach.specs.Privileges.{owner, Permitted}
 use Rattle.rules.specs.declared.Request.{Request}
 use Rattle.rules.specs.Records.{sender}
 use Rattle.rules.specs.Allowing.{Gives, HandsOver, Owned, Standing}
-use Rattle.list.specs.Runs.{Bytes, before, end, recordAt, Done}
+use Rattle.text.specs.Text.{Bytes}
+use Rattle.list.specs.Runs.{before, end, recordAt, Done}
 use Rattle.list.specs.Lines.{PermissionLine}
 
 -- For a list from any start, with what stood there as the ends of lines. [01:line.10] "In it an object is one in use." [01:line.11] "A

@@ -9,7 +9,8 @@ use Rattle.reach.specs.declared.Policy.{Policy}
 use Rattle.reach.specs.Tests.{_⇒_∥_}
 use Rattle.rules.specs.Judging.{answers}
 use Rattle.list.specs.declared.Outcome.{Outcome}
-use Rattle.list.specs.Runs.{Bytes, run}
+use Rattle.text.specs.Text.{Bytes}
+use Rattle.list.specs.Runs.{run}
 
 -- The codes of the answers, and what they cite, in their order.
 abbrev pub codesOf : List (ℕ × ℕ) → Bytes

@@ -4,5 +4,4 @@ pub mod Parts
 pub mod Filling
 pub mod Lines
 pub mod Demand
-pub mod Text
 pub mod Report

@@ -13,7 +13,8 @@ use Rattle.reach.specs.Privileges.{administrator, Owns, Manages, Administers, P
 use Rattle.rules.specs.declared.Request.{Request}
 use Rattle.rules.specs.declared.Request.the-variants.{Make, Put, Take, Dismiss, Withdraw}
 use Rattle.rules.specs.Allowing.{Standing, appointing, granting}
-use Rattle.list.specs.Runs.{Bytes, before, end, Done, NotDone}
+use Rattle.text.specs.Text.{Bytes}
+use Rattle.list.specs.Runs.{before, end, Done, NotDone}
 
 -- P of each direct membership on a chain.
 abbrev pub Each : {v : View} {x g : ℕ} → (ℕ → ℕ → Type 0) → Under v x g → Type 0

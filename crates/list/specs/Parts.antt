@@ -6,7 +6,7 @@ use Prim.Native.Nat.{ℕ, _-_}
 use lib.Dec.{leb}
 use lib.ListN.{length, take, drop}
 use Rattle.reach.specs.Tests.{_⇒_∥_}
-use Rattle.list.specs.Runs.{Bytes}
+use Rattle.text.specs.Text.{Bytes}
 
 -- The part of the bytes from one place up to another. Where the second comes before the first, or past the end, the part is empty, and
 -- so is judged as a record of no bytes.

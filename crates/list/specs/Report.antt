@@ -8,8 +8,7 @@ use Rattle.reach.specs.Tests.{_⇒_∥_}
 use Rattle.reach.specs.Tables.{initial}
 use Rattle.frame.specs.Reading.{recordsFrom, tornFrom}
 use Rattle.rules.specs.Judging.{answers}
-use Rattle.list.specs.Runs.{Bytes}
-use Rattle.list.specs.Text.{lines, tornPlace}
+use Rattle.text.specs.Text.{Bytes, lines, tornPlace}
 
 -- The answers to the records that stand in the input from a position on, the first judged on p; and behind them, if the input is torn
 -- there, that of the torn place.

@@ -3,15 +3,12 @@ use mathlib.Core.Path.{_≡_}
 use mathlib.Core.List.{List, [], _∷_}
 use Prim.Native.Nat.{ℕ, _≤_, _<_}
 use lib.ListN.{length, take, getD}
+use Rattle.text.specs.Text.{Bytes}
 use Rattle.reach.specs.declared.Policy.{Policy}
 use Rattle.reach.specs.Tables.{View, view}
 use Rattle.rules.specs.declared.Request.{Request}
 use Rattle.rules.specs.Records.{sender, request}
 use Rattle.rules.specs.Judging.{codeOf, judge}
-
--- A byte string.
-abbrev pub Bytes : Type 0
-Bytes = List ℕ
 
 -- [01:line.7] "A list of requests is any finite list, the empty one too, of byte strings, each judged as one record, accepted or refused."
 -- [01:line.8] "The first is judged on the founding's sheet, each later one on the sheet that the judge returned for the one before": the

@@ -1,7 +1,6 @@
 // A list of requests: its run, what holds of every list (demand 3), and what the program prints.
 mod program;
 mod run;
-mod text;
 
 pub use program::output;
 pub use program::report;

@@ -1,20 +1,29 @@
 // What the program prints for its input. A buffer that is too small gets as much of the text as it has room for.
-ghost use Rattle.list.specs.Text.{Printed};
+ghost use Rattle.text.specs.Text.{Printed};
 ghost use Rattle.list.specs.Report.{report, output};
-use crate::text::put_bytes;
-use crate::text::put_line;
+use forms::request_of;
 use frame::Step;
 use frame::read_at;
+use judge::appointments_after;
 use judge::cited_of;
 use judge::code_of;
-use judge::judge;
+use judge::masks_after;
+use judge::members_after;
+use judge::rules_after;
+use judge::sorts_after;
+use judge::verdict;
 use reach::Policy;
+use reach::masks_of;
+use text::put_bytes;
+use text::put_line;
 
 // A line for each record of the input, judged from the founding on, and one for a torn place.
 pub fn report(input: &[u8], out: &mut [u8]) -> usize
     ensures { λ r. ⌜ Printed (now (out .entry)) (report (now (input .entry))) (now (out .exit)) r ⌝ }
 {
     let mut p = Policy::initial();
+    let founding = p.sorts;
+    let mut m = masks_of(founding);
     let mut at: usize = 0;
     let mut index: usize = 0;
     let mut n: usize = 0;
@@ -25,10 +34,25 @@ pub fn report(input: &[u8], out: &mut [u8]) -> usize
                 length: _,
                 next,
             } => {
-                let answer = judge(p, &input[start..next]);
-                let verdict = answer.verdict;
-                n = put_line(out, n, index, code_of(verdict), cited_of(verdict));
-                p = answer.policy;
+                let appointments = p.appointments;
+                let rules = p.rules;
+                let v = verdict(&p.members, m, appointments, rules, &input[start..next]);
+                let code = code_of(v);
+                n = put_line(out, n, index, code, cited_of(v));
+                if code == 0 {
+                    let q = request_of(&input[start..next]);
+                    let sorts = p.sorts;
+                    let made = sorts_after(sorts, q);
+                    p.sorts = made;
+                    let members = p.members;
+                    let moved = members_after(members, q);
+                    p.members = moved;
+                    let appointed = appointments_after(appointments, q);
+                    p.appointments = appointed;
+                    let ruled = rules_after(rules, q);
+                    p.rules = ruled;
+                    m = masks_after(m, made, q);
+                }
                 at = next;
                 index = index + 1;
             }

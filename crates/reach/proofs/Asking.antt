@@ -18,7 +18,7 @@ use Rattle.reach.specs.Reach.{Under}
 use Rattle.reach.specs.Privileges.{permitsBy}
 use Rattle.reach.specs.Surveys.{Told}
 use Rattle.reach.proofs.Bits.{bit-none}
-use Rattle.reach.proofs.Testing.{decides-at, decides-and, decides-true, decides-ltb, fails, none-next}
+use Rattle.reach.proofs.Testing.{decides-at, decides-and, decides-ltb, fails, none-next}
 use Rattle.reach.proofs.WordSets.{set-bits, set-or, set-one, has-decides}
 use Rattle.reach.proofs.Reaching.{under-upper}
 use Rattle.reach.proofs.Chains.{in-use-below}
@@ -66,19 +66,17 @@ module _ (p : Policy) (x : ℕ) where
       let d = has-decides (k .above) g in
       record { sound = λ h. t .only g (d .sound h); complete = λ u. d .complete (t .all g e u) }
 
--- What is asked of a rule before its groups are: that it is in use, has the operation, and names objects.
+-- What is asked of a rule in use before its groups are: that it has the operation, and names objects.
 abbrev pub Fit : AccessRule → ℕ → Type 0
-Fit w k = (((w .used ≡ true) × (bit (w .operations) k ≡ 1)) × (w .users < 64)) × (w .targets < 64)
+Fit w k = ((bit (w .operations) k ≡ 1) × (w .users < 64)) × (w .targets < 64)
 
 pub decides-fit : (w : AccessRule) (k : ℕ) (b : Bool) → b ≡ has (w .operations) k
-    → Decides (w .used && b && ltb (w .users) 64 && ltb (w .targets) 64) (Fit w k)
+    → Decides (b && ltb (w .users) 64 && ltb (w .targets) 64) (Fit w k)
 decides-fit w k b e =
-    decides-and _ _
-    (decides-and _ _ (decides-and _ _ (decides-true _) (decides-at e (has-decides (w .operations) k))) (decides-ltb _ 64))
-    (decides-ltb _ 64)
+    decides-and _ _ (decides-and _ _ (decides-at e (has-decides (w .operations) k)) (decides-ltb _ 64)) (decides-ltb _ 64)
 
 pub fit-of : (p : Policy) (w : AccessRule) (u k x : ℕ) → ByRule p w u k x → Fit w k
-fit-of p w u k x h = ((h .0, in-use-below p _ (under-upper (h .1 .0))), in-use-below p _ (under-upper (h .1 .1)))
+fit-of p w u k x h = ((h .0 .1, in-use-below p _ (under-upper (h .1 .0))), in-use-below p _ (under-upper (h .1 .1)))
 
 module _ (p : Policy) {l : List AccessRule} (e : p .rules ≡ l) (i u k x : ℕ) where
   -- The rules below i permit nothing, nor does that at i.

@@ -1,5 +1,5 @@
--- The bits of a word: of 0, of `|`, `&`, `!` and `1 << i`, and the lowest bit that is set. Each operation works bit by bit, so each
--- law is one step of the library's laws on halves, by induction on the bit's number.
+-- The bits of a word: of 0, of `|`, `&`, `!` and `1 << i`, and the lowest and the highest bit that is set. Each operation works bit by
+-- bit, so each law is one step of the library's laws on halves, by induction on the bit's number.
 use mathlib.Core.Path.{_≡_, refl, sym, ap, _∙_}
 use mathlib.Core.Logic.{_⊎_, inl, inr}
 use Prim.Native.Nat.{ℕ, zero, suc, _+_, _-_, _*_, _/_, _%_, _^_, _≤_, _<_, min, max, zero-le, suc-le-suc}
@@ -9,7 +9,7 @@ use lib.Dec.{lit<}
 use lib.Arith.{digits-mod, lt-one, lt-of-le-ne}
 use lib.Pow.{pow-pos, pow-mono, shr-shr, shl-exact}
 use lib.Bits.{bitAnd, bitOr, and-step, or-step, and-shr, or-shr, or-add-and, and-le-r, and-mask}
-use lib.Count.{trailingZeros, under}
+use lib.Count.{trailingZeros, leadingZeros, leading-top, under}
 use Rattle.reach.specs.Words.{bit}
 
 pub bit-le : (s x : ℕ) → bit s x ≤ 1
@@ -60,6 +60,18 @@ unfolding bit
 bit-and a b x =
     ap (λ (n : ℕ). n % 2) (and-shr a b x ∙ and-step (a / 2 ^ x) (b / 2 ^ x))
     ∙ digits-mod (bitAnd (a / 2 ^ x / 2) (b / 2 ^ x / 2)) (omega arith)
+
+-- A bit of `a | b` is one of a or of b.
+pub or-bit : (a b x : ℕ) → bit (bitOr a b) x ≡ 1 → (bit a x ≡ 1) ⊎ (bit b x ≡ 1)
+or-bit a b x e = pick (bit-two a x)
+  where
+    pick : (bit a x ≡ 0) ⊎ (bit a x ≡ 1) → (bit a x ≡ 1) ⊎ (bit b x ≡ 1)
+    pick (inl z) = inr (omega (arith, z, bit-le b x, sym (bit-or a b x) ∙ e))
+    pick (inr o) = inl o
+
+pub bit-of-or : (a b x : ℕ) → (bit a x ≡ 1) ⊎ (bit b x ≡ 1) → bit (bitOr a b) x ≡ 1
+bit-of-or a b x (inl l) = bit-or a b x ∙ omega (arith, l, bit-le b x)
+bit-of-or a b x (inr r) = bit-or a b x ∙ omega (arith, r, bit-le a x)
 
 -- `!a` of a word of k bits.
 pub bit-not : (k a x : ℕ) → a < 2 ^ k → x < k → bit (2 ^ k - 1 - a) x ≡ 1 - bit a x
@@ -144,6 +156,20 @@ pub lowest-bit : (k s : ℕ) → (s ≡ 0 → ⊥) → s < 2 ^ k → (trailingZe
 unfolding trailingZeros
 lowest-bit zero s n h = absurd (n (lt-one h))
 lowest-bit (suc k) s n h = lowest-step k s (λ m. lowest-bit k (s / 2) m (omega (arith, pow-suc 2 k))) n (s % 2) refl
+
+-- A number of j + 1 bits that has no fewer has bit j.
+top-bit : (j s : ℕ) → 2 ^ j ≤ s → s < 2 ^ suc j → bit s j ≡ 1
+top-bit zero s l u = bit-at-zero s ∙ omega (arith, l, u)
+top-bit (suc j) s l u =
+    bit-suc s j ∙ top-bit j (s / 2) (omega (arith, pow-suc 2 j, l)) (omega (arith, pow-suc 2 (suc j), pow-suc 2 j, u))
+
+-- The zeros above the highest set bit, and the bits from it down, make all k.
+pub highest-bit : (k s : ℕ) → (s ≡ 0 → ⊥) → s < 2 ^ k → (leadingZeros k s < k) × (bit s (k - 1 - leadingZeros k s) ≡ 1)
+highest-bit k s n h =
+    let t = leading-top k s (omega arith) h in
+    let e : leadingZeros k s + suc (t .0) ≡ k = t .1 in
+    let q : k - 1 - leadingZeros k s ≡ t .0 = omega (arith, e) in
+    (omega (arith, e), ap (bit s) q ∙ top-bit (t .0) s (t .2) (t .3))
 
 -- `a | b` is more than a where b has a bit that a lacks.
 pub or-grows : (a b h : ℕ) → bit a h ≡ 0 → bit b h ≡ 1 → a < bitOr a b

@@ -14,7 +14,8 @@ use Rattle.reach.specs.Privileges.{administrator, Holds, Administers, Pe
 use Rattle.reach.specs.Changes.{viewMade, viewPut, viewTaken, viewAppointed, viewRuled}
 use Rattle.reach.proofs.Testing.{some-map, written-cases}
 use Rattle.reach.proofs.Sorts.{counted-known}
-use Rattle.reach.proofs.Frames.{under-appointed, under-appointed-back, under-ruled, under-ruled-back, put-keeps, put-adds, put-adds-only, taken-removes-only, made-keeps, made-adds-none}
+use Rattle.reach.proofs.Frames.{under-appointed, under-appointed-back, under-ruled, under-ruled-back, put-keeps, put-adds}
+use Rattle.reach.proofs.Frames.{put-adds-only, taken-removes-only, made-keeps, made-adds-none}
 
 -- An appointment of a known kind stands.
 pub known-kind : (k : ℕ) → 1 ≤ k → k ≤ 3 → 0 < counted k

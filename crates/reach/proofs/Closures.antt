@@ -3,11 +3,11 @@
 use mathlib.Core.Path.{_≡_, sym, _∙_, subst}
 use mathlib.Core.List.{List}
 use mathlib.Core.Logic.{_⊎_, inl, inr, ⊎-elim}
-use Prim.Native.Nat.{ℕ, _+_, _*_, _%_, _^_, _≤_, _<_}
+use Prim.Native.Nat.{ℕ, _+_, _-_, _*_, _%_, _^_, _≤_, _<_}
 use native.Mathlib.Decide.{ℕ-discrete}
 use native.Mathlib.Omega.{arith}
 use lib.Bits.{bitAnd, bitOr}
-use lib.Count.{trailingZeros}
+use lib.Count.{trailingZeros, leadingZeros}
 use lib.Dec.{lit<}
 use lib.ListN.{length, getD, set, length-set}
 use lib.Seq.{getD-set-same, getD-set-other}
@@ -17,7 +17,7 @@ use Rattle.reach.specs.Tables.{view}
 use Rattle.reach.specs.Reach.{Under}
 use Rattle.reach.specs.Surveys.{ClosureOf}
 use Rattle.reach.proofs.Bits.{bit-none}
-use Rattle.reach.proofs.WordSets.{set-at, set-bits, set-or, set-one, set-mask, set-lowest}
+use Rattle.reach.proofs.WordSets.{set-at, set-bits, set-or, set-one, set-mask, set-lowest, set-highest}
 
 -- The rows of the set `ready` are right, and it has every number from n up.
 pub record Ready (p : Policy) (n ready : ℕ) (rows : List ℕ) : Type 0 where
@@ -67,8 +67,10 @@ module _ {p : Policy} where
   pub ready-all : {n ready : ℕ} {rows : List ℕ} → Table ready rows → Ready p n ready rows → n ≡ 0 → ClosureOf p rows
   ready-all t r e = record { long = t .long; row = λ i h. r .row i (r .from i (omega (arith, e)) h) }
 
--- The lowest of todo that is ready.
-pub near-lowest : (todo : ℕ) {ready : ℕ} → ready < 2 ^ 64 → (bitAnd todo ready ≡ 0 → ⊥)
-    → (trailingZeros 64 (bitAnd todo ready) < 64)
-    × ((bit todo (trailingZeros 64 (bitAnd todo ready)) ≡ 1) × (bit ready (trailingZeros 64 (bitAnd todo ready)) ≡ 1))
-near-lowest todo {ready} w n = set-lowest (set-mask todo (set-bits ready w)) n
+-- The lowest and the highest of todo that are ready.
+module _ (todo : ℕ) {ready : ℕ} (w : ready < 2 ^ 64) (n : bitAnd todo ready ≡ 0 → ⊥) where
+  pub near-lowest : let h = trailingZeros 64 (bitAnd todo ready) in (h < 64) × ((bit todo h ≡ 1) × (bit ready h ≡ 1))
+  near-lowest = set-lowest (set-mask todo (set-bits ready w)) n
+
+  pub near-highest : let z = leadingZeros 64 (bitAnd todo ready) in (z < 64) × ((bit todo (63 - z) ≡ 1) × (bit ready (63 - z) ≡ 1))
+  near-highest = set-highest (set-mask todo (set-bits ready w)) n

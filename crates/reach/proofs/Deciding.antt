@@ -13,8 +13,10 @@ use Rattle.reach.specs.Words.{bit, has, SetOf}
 use Rattle.reach.specs.Tests.{some, Some, Decides, _⇒_∥_, lowest}
 use Rattle.reach.specs.Tables.{sort, appointment, rule, view}
 use Rattle.reach.specs.Reach.{InUse, User, Target, isUser, isTarget}
-use Rattle.reach.specs.Privileges.{HoldsBy, Holds, AdministersBy, Administers, PermitsBy, Permitted, Orphan, administrator, holdsBy, holds, administersBy, administers, permitsBy, askable, permitted, permitting, orphaned}
-use Rattle.reach.proofs.Testing.{decides-as, decides-same, decides-and, decides-not, decides-some, decides-eqb, decides-ltb, decides-true, some-map, lowest-none, lowest-found, LowestAt, lowest-cases, fails, some-found}
+use Rattle.reach.specs.Privileges.{HoldsBy, Holds, AdministersBy, Administers, PermitsBy, Permitted, Orphan, administrator, holdsBy}
+use Rattle.reach.specs.Privileges.{holds, administersBy, administers, permitsBy, askable, permitted, permitting, orphaned}
+use Rattle.reach.proofs.Testing.{decides-as, decides-same, decides-and, decides-not, decides-some, decides-eqb, decides-ltb}
+use Rattle.reach.proofs.Testing.{decides-true, some-map, lowest-none, lowest-found, LowestAt, lowest-cases, fails, some-found}
 use Rattle.reach.proofs.WordSets.{set-mask, set-not, set-empty, decides-nonempty, has-is}
 use Rattle.reach.proofs.Places.{OwnedAt}
 use Rattle.reach.proofs.Chains.{in-use-below, decides-in-use, under-decides}

@@ -17,7 +17,7 @@ use Rattle.reach.specs.Words.{bit, has, SetOf}
 use Rattle.reach.specs.Tables.{stored, view}
 use Rattle.reach.specs.Reach.{InUse, Group, Direct, Under, itself, up}
 use Rattle.reach.specs.Surveys.{MasksOf, Lent}
-use Rattle.reach.proofs.Bits.{bit-le, bit-two, bit-clash, bit-zero, bit-none, bit-or, bit-not, or-grows}
+use Rattle.reach.proofs.Bits.{bit-le, bit-two, bit-clash, bit-zero, bit-none, or-bit, bit-of-or, bit-not, or-grows}
 use Rattle.reach.proofs.WordSets.{set-bits, set-as, set-or, set-mask, set-not, set-one, set-below, set-empty}
 use Rattle.reach.proofs.Reaching.{group-in-use, under-trans}
 use Rattle.reach.proofs.Chains.{in-use-below}
@@ -34,11 +34,21 @@ pub row-of-direct : (p : Policy) (x h : ℕ) → Direct (view p) x h → InRow p
 unfolding stored has
 row-of-direct p x h d = (eqb-true _ _ (d .is-stored), d .object)
 
--- The row, as it is lent.
-pub lent-row : {p : Policy} {members : List ℕ} {m : Masks} → Lent p members m → (h : ℕ)
-    → SetOf (bitAnd (getD members h 0) (m .objects)) (InRow p h)
-lent-row {p} {m = m} k h =
-    subst (λ (t : List ℕ). SetOf (bitAnd (getD t h 0) (m .objects)) (InRow p h)) (k .rows) (set-mask _ (k .masks .objects))
+-- Two rows, as they are lent.
+pub lent-rows : {p : Policy} {members : List ℕ} {m : Masks} → Lent p members m → (h l : ℕ)
+    → SetOf (bitAnd (bitOr (getD members h 0) (getD members l 0)) (m .objects)) (λ x. InRow p h x ⊎ InRow p l x)
+lent-rows {p} {m = m} k h l =
+    subst
+    (λ (t : List ℕ). SetOf (bitAnd (bitOr (getD t h 0) (getD t l 0)) (m .objects)) (λ x. InRow p h x ⊎ InRow p l x))
+    (k .rows)
+    (set-as
+    (set-mask _ (k .masks .objects))
+    (λ x w. ⊎-elim (λ e. inl (e, w .1)) (λ e. inr (e, w .1)) (or-bit _ _ x (w .0)))
+    (λ x w. ⊎-elim (λ r. (has-of x (inl (r .0)), r .1)) (λ r. (has-of x (inr (r .0)), r .1)) w))
+  where
+    has-of : (x : ℕ) → (bit (getD (p .members) h 0) x ≡ 1) ⊎ (bit (getD (p .members) l 0) x ≡ 1)
+        → bit (bitOr (getD (p .members) h 0) (getD (p .members) l 0)) x ≡ 1
+    has-of x w = bit-of-or (getD (p .members) h 0) (getD (p .members) l 0) x w
 
 -- What is known at the loop's head. A set that is done may have what is no group.
 pub record Seeking (p : Policy) (g found done todo : ℕ) : Type 0 where
@@ -86,15 +96,11 @@ module _ {done todo : ℕ} (w : Undone done todo) (h : ℕ) (e : bit todo h ≡ 
   one-taken : bit ((1 * 2 ^ h) % 2 ^ 64) h ≡ 1
   one-taken = set-one h (set-below (set-bits todo (w .todo-word)) h e) .all h refl
 
-  less : (r : ℕ) → bit r h ≡ 1 → 2 ^ 64 - bitOr done r < 2 ^ 64 - done
-  less r b = let a = w .apart h e in omega (arith, or-grows done r h (a .1) b, a .0)
-
-  pub less-one : 2 ^ 64 - bitOr done ((1 * 2 ^ h) % 2 ^ 64) < 2 ^ 64 - done
-  less-one = less ((1 * 2 ^ h) % 2 ^ 64) one-taken
-
   pub less-row : (row : ℕ) → 2 ^ 64 - bitOr done (bitOr row ((1 * 2 ^ h) % 2 ^ 64)) < 2 ^ 64 - done
   less-row row =
-      less (bitOr row ((1 * 2 ^ h) % 2 ^ 64)) (bit-or row ((1 * 2 ^ h) % 2 ^ 64) h ∙ omega (arith, bit-le row h, one-taken))
+      let r = bitOr row ((1 * 2 ^ h) % 2 ^ 64) in
+      let a = w .apart h e in
+      omega (arith, or-grows done r h (a .1) (bit-of-or row ((1 * 2 ^ h) % 2 ^ 64) h (inr one-taken)), a .0)
 
 module _ (p : Policy) (m : Masks) (k : MasksOf p m) (g : ℕ) where
   pub seek-start : g < 64
@@ -135,37 +141,45 @@ module _ (p : Policy) (m : Masks) (k : MasksOf p m) (g : ℕ) where
       }
 
   module _ {found done todo : ℕ} (s : Seeking p g found done todo) (h : ℕ) (e : bit todo h ≡ 1) where
-    -- The turn takes h, and finds all that is under it, by a row that is ready.
-    pub turn-row : (row : ℕ) → SetOf row (λ x. Under (view p) x h)
+    -- The turn takes h and l, and finds all that is under either, by rows that are ready. They may be the same.
+    pub turn-rows : (l : ℕ) → bit todo l ≡ 1 → (row : ℕ) → SetOf row (λ x. Under (view p) x h ⊎ Under (view p) x l)
         → let f = bitOr found row in
         let d = bitOr done (bitOr row ((1 * 2 ^ h) % 2 ^ 64)) in
         Seeking p g f d (bitAnd (bitAnd f (m .groups)) (2 ^ 64 - 1 - d))
-    turn-row row r =
+    turn-rows l i row r =
         let w = s .left .only h e in
+        let v = s .left .only l i in
         seek-step
         s
         (set-or (set-bits found (s .found-word)) r)
         (set-or (set-bits done (s .done-word)) (set-or r (set-one h (w .1 .0))))
-        (λ x u. under-trans u (s .only h (w .0 .0)))
+        (λ x q. ⊎-elim (λ u. under-trans u (s .only h (w .0 .0))) (λ u. under-trans u (s .only l (v .0 .0))) q)
         (λ j x q d.
         ⊎-elim
-        (λ u. up d u)
-        (λ i. up (subst (Direct (view p) x) i d) (itself (group-in-use (view p) h (w .0 .1))))
+        (λ a. ⊎-elim (λ u. inl (up d u)) (λ u. inr (up d u)) a)
+        (λ b. inl (up (subst (Direct (view p) x) b d) (itself (group-in-use (view p) h (w .0 .1)))))
         q)
 
-    -- The turn takes h, and finds what is directly in it.
-    pub turn-one : (row : ℕ) → SetOf row (InRow p h)
+    -- The turn takes h and l, and finds what is directly in either. They may be the same.
+    pub turn-two : (l : ℕ) → bit todo l ≡ 1 → (row : ℕ) → SetOf row (λ x. InRow p h x ⊎ InRow p l x)
         → let f = bitOr found row in
-        let d = bitOr done ((1 * 2 ^ h) % 2 ^ 64) in
+        let d = bitOr done (bitOr ((1 * 2 ^ h) % 2 ^ 64) ((1 * 2 ^ l) % 2 ^ 64)) in
         Seeking p g f d (bitAnd (bitAnd f (m .groups)) (2 ^ 64 - 1 - d))
-    turn-one row r =
+    turn-two l i row r =
         let w = s .left .only h e in
+        let v = s .left .only l i in
         seek-step
         s
         (set-or (set-bits found (s .found-word)) r)
-        (set-or (set-bits done (s .done-word)) (set-one h (w .1 .0)))
-        (λ x i. up (direct-of-row p x h (w .0 .1) i) (s .only h (w .0 .0)))
-        (λ j x q d. subst (λ (y : ℕ). InRow p y x) q (row-of-direct p x j d))
+        (set-or (set-bits done (s .done-word)) (set-or (set-one h (w .1 .0)) (set-one l (v .1 .0))))
+        (λ x q.
+        ⊎-elim
+        (λ a. up (direct-of-row p x h (w .0 .1) a) (s .only h (w .0 .0)))
+        (λ a. up (direct-of-row p x l (v .0 .1) a) (s .only l (v .0 .0)))
+        q)
+        (λ j x q d.
+        let a = row-of-direct p x j d in
+        ⊎-elim (λ b. inl (subst (λ (y : ℕ). InRow p y x) b a)) (λ b. inr (subst (λ (y : ℕ). InRow p y x) b a)) q)
 
 -- Where nothing is left, all is found.
 pub seek-end : {p : Policy} {g found done todo : ℕ} → Seeking p g found done todo → todo ≡ 0 → SetOf found (λ x. Under (view p) x g)

@@ -11,12 +11,13 @@ use native.Mathlib.Omega.{arith}
 use lib.Dec.{lit<, eqb}
 use lib.Pow.{pow-pos, ones-sub-lt}
 use lib.Bits.{bitAnd, bitOr, or-lt, and-le-r}
-use lib.Count.{trailingZeros}
+use lib.Count.{trailingZeros, leadingZeros}
 use borrow.Author.Tests.{eqb-true, eqb-false, eq-eqb, not-true, not-false}
 use Rattle.reach.specs.Words.{bit, has, SetOf}
 use Rattle.reach.specs.Tests.{Some, Decides}
 use Rattle.reach.proofs.Testing.{decides-eqb}
-use Rattle.reach.proofs.Bits.{bit-le, bit-two, bit-clash, bit-none, bit-high, bit-or, bit-and, bit-not, one-shl, one-shl-half, bit-low-half, bit-high-half, bit-one, bit-one-only, lowest-bit}
+use Rattle.reach.proofs.Bits.{bit-le, bit-two, bit-clash, bit-none, bit-high, or-bit, bit-of-or, bit-and, bit-not}
+use Rattle.reach.proofs.Bits.{one-shl, one-shl-half, bit-low-half, bit-high-half, bit-one, bit-one-only, lowest-bit, highest-bit}
 
 -- A word is the set of its bits.
 pub set-bits : (s : ℕ) → s < 2 ^ 64 → SetOf s (λ x. bit s x ≡ 1)
@@ -31,14 +32,8 @@ module _ {P Q : ℕ → Type 0} where
   set-or {a} {b} p q =
       record {
         word = or-lt 64 a b (p .word) (q .word);
-        only = λ x e.
-            ⊎-elim
-            (λ z. inr (q .only x (omega (arith, z, bit-le b x, sym (bit-or a b x) ∙ e))))
-            (λ o. inl (p .only x o))
-            (bit-two a x);
-        all = λ x w.
-            bit-or a b x
-            ∙ ⊎-elim (λ l. omega (arith, p .all x l, bit-le b x)) (λ r. omega (arith, q .all x r, bit-le a x)) w;
+        only = λ x e. ⊎-elim (λ l. inl (p .only x l)) (λ r. inr (q .only x r)) (or-bit a b x e);
+        all = λ x w. bit-of-or a b x (⊎-elim (λ l. inl (p .all x l)) (λ r. inr (q .all x r)) w);
       }
 
 module _ {P : ℕ → Type 0} where
@@ -88,6 +83,10 @@ module _ {P : ℕ → Type 0} where
   -- The lowest number of a set that is not empty.
   pub set-lowest : {s : ℕ} → SetOf s P → (s ≡ 0 → ⊥) → (trailingZeros 64 s < 64) × P (trailingZeros 64 s)
   set-lowest {s} p n = let r = lowest-bit 64 s n (p .word) in (r .0, p .only (trailingZeros 64 s) (r .1))
+
+  -- The highest number.
+  pub set-highest : {s : ℕ} → SetOf s P → (s ≡ 0 → ⊥) → (leadingZeros 64 s < 64) × P (63 - leadingZeros 64 s)
+  set-highest {s} p n = let r = highest-bit 64 s n (p .word) in (r .0, p .only (63 - leadingZeros 64 s) (r .1))
 
   -- The test of a set's member decides what the set is of.
   pub decides-has : {s : ℕ} → SetOf s P → (x : ℕ) → Decides (has s x) (P x)

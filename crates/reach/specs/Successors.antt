@@ -42,6 +42,14 @@ addTo l x g = set l g (withBit x (getD l g 0))
 abbrev pub removeFrom : List ℕ → ℕ → ℕ → List ℕ
 removeFrom l x g = set l g (withoutBit x (getD l g 0))
 
+-- The members with x put directly into g; past the table nothing changes.
+abbrev pub putInto : List ℕ → ℕ → ℕ → List ℕ
+putInto l x g = onTable x g ⇒ addTo l x g ∥ l
+
+-- The members with x taken out of g; past the table nothing changes.
+abbrev pub takenFrom : List ℕ → ℕ → ℕ → List ℕ
+takenFrom l x g = onTable x g ⇒ removeFrom l x g ∥ l
+
 unfoldable pub put : Policy → ℕ → ℕ → Policy
 put p x g = onTable x g ⇒ withMembers p (addTo (p .members) x g) ∥ p
 
@@ -51,6 +59,13 @@ taken p x g = onTable x g ⇒ withMembers p (removeFrom (p .members) x g) ∥ p
 -- [01:who.3] "The new object is directly in it." [01:who.4] "Every other membership stored for the new number, on either side, is cleared."
 abbrev pub cleared : List ℕ → ℕ → List ℕ
 cleared l x = set (map (withoutBit x) l) x 0
+
+-- The members with x made in g, and the sorts with x made of a sort; past the table nothing changes.
+abbrev pub madeIn : List ℕ → ℕ → ℕ → List ℕ
+madeIn l x g = onTable x g ⇒ addTo (cleared l x) x g ∥ l
+
+abbrev pub sortedAs : List ℕ → ℕ → ℕ → ℕ → List ℕ
+sortedAs l x k g = onTable x g ⇒ set l x k ∥ l
 
 unfoldable pub made : Policy → ℕ → ℕ → ℕ → Policy
 made p x k g = onTable x g ⇒ withSorts (withMembers p (addTo (cleared (p .members) x) x g)) (set (p .sorts) x k) ∥ p

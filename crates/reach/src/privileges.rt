@@ -24,10 +24,10 @@ use crate::under::search;
 fn held_by(members: &[u64; 64], m: Masks, w: Appointment, kind: u8, u: u8) -> u64
     ensures { λ r. ⌜ Whose (now (members .entry)) m (λ p. SetOf r (λ x. ((w .kind ≡ kind) × (w .holder ≡ u)) × Under (view p) x (w .a))) ⌝ }
 {
-    if w.kind != kind {
+    if w.holder != u {
         return 0;
     }
-    if w.holder != u {
+    if w.kind != kind {
         return 0;
     }
     search(members, m, w.a)
@@ -54,10 +54,10 @@ fn governed_by(members: &[u64; 64], m: Masks, w: Appointment, u: u8) -> u64
     ensures { λ r. ⌜ Whose (now (members .entry)) m (λ p.
         SetOf r (λ x. (((w .kind ≡ 1) ⊎ (w .kind ≡ 2)) × (w .holder ≡ u)) × Under (view p) x (w .a))) ⌝ }
 {
-    if !((w.kind == 1) | (w.kind == 2)) {
+    if w.holder != u {
         return 0;
     }
-    if w.holder != u {
+    if !((w.kind == 1) | (w.kind == 2)) {
         return 0;
     }
     search(members, m, w.a)
@@ -115,10 +115,10 @@ fn administered_by(members: &[u64; 64], m: Masks, w: Appointment, u: u8, a: u8) 
     ensures { λ r. ⌜ Whose (now (members .entry)) m (λ p.
         SetOf r (λ b. ((w .kind ≡ 3) × (w .holder ≡ u)) × (Under (view p) a (w .a) × Under (view p) b (w .b)))) ⌝ }
 {
-    if w.kind != 3 {
+    if w.holder != u {
         return 0;
     }
-    if w.holder != u {
+    if w.kind != 3 {
         return 0;
     }
     if !has(search(members, m, w.a), a) {
@@ -190,12 +190,14 @@ pub fn permitting(
     while i < 64 {
         let n = i as usize;
         let rule = rules[n];
-        if rule.used & has(rule.operations as u64, k) & (rule.users < 64) & (rule.targets < 64) {
-            of_user = ask(members, m, u, of_user, rule.users);
-            if has(of_user.above, rule.users) {
-                of_target = ask(members, m, x, of_target, rule.targets);
-                if has(of_target.above, rule.targets) {
-                    return Place::At(i);
+        if rule.used {
+            if has(rule.operations as u64, k) & (rule.users < 64) & (rule.targets < 64) {
+                of_user = ask(members, m, u, of_user, rule.users);
+                if has(of_user.above, rule.users) {
+                    of_target = ask(members, m, x, of_target, rule.targets);
+                    if has(of_target.above, rule.targets) {
+                        return Place::At(i);
+                    }
                 }
             }
         }

@@ -4,7 +4,8 @@ use crate::Masks;
 use crate::Policy;
 use crate::Survey;
 
-// A search from each object, the highest number first, that takes the whole row of a group whose row is ready.
+// A search from each object, the highest number first, that takes the whole row of a group whose row is ready. Each turn takes two groups:
+// the lowest and the highest of those left whose rows are ready, or of all that are left where none is ready.
 pub fn closure(members: &[u64; 64], m: Masks) -> [u64; 64]
     ensures { λ r. ⌜ Whose (now (members .entry)) m (λ p. ClosureOf p r) ⌝ }
 {
@@ -20,13 +21,15 @@ pub fn closure(members: &[u64; 64], m: Masks) -> [u64; 64]
             let near = todo & ready;
             if near != 0 {
                 let h = u64::trailing_zeros(near) as usize;
-                let row = rows[h];
+                let l = 63 - u64::leading_zeros(near) as usize;
+                let row = rows[h] | rows[l];
                 found |= row;
                 done |= row | (1u64 << h);
             } else {
                 let h = u64::trailing_zeros(todo) as usize;
-                found |= members[h] & m.objects;
-                done |= 1u64 << h;
+                let l = 63 - u64::leading_zeros(todo) as usize;
+                found |= (members[h] | members[l]) & m.objects;
+                done |= (1u64 << h) | (1u64 << l);
             }
             todo = found & m.groups & !done;
         }

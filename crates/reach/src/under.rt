@@ -12,8 +12,9 @@ use crate::sets::has;
 use crate::sets::joined;
 use crate::sets::mark;
 
-// All that is under g. Each turn takes one group that was found and not done, and finds what is directly in it. The table is lent: whoever
-// asks many questions of a policy works its masks once, and copies nothing.
+// All that is under g. Each turn takes two groups that were found and not done, the lowest and the highest of them (one group where no
+// other is left), and finds what is directly in them. The table is lent: whoever asks many questions of a policy works its masks once,
+// and copies nothing.
 pub fn search(members: &[u64; 64], m: Masks, g: u8) -> u64
     ensures { λ r. ⌜ Whose (now (members .entry)) m (λ p. SetOf r (λ x. Under (view p) x g)) ⌝ }
 {
@@ -25,8 +26,9 @@ pub fn search(members: &[u64; 64], m: Masks, g: u8) -> u64
     let mut todo = found & m.groups;
     while todo != 0 {
         let h = u64::trailing_zeros(todo) as usize;
-        found |= members[h] & m.objects;
-        done |= 1u64 << h;
+        let l = 63 - u64::leading_zeros(todo) as usize;
+        found |= (members[h] | members[l]) & m.objects;
+        done |= (1u64 << h) | (1u64 << l);
         todo = found & m.groups & !done;
     }
     found

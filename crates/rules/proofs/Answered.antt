@@ -14,7 +14,8 @@ use Rattle.rules.specs.Records.{lengthOf, request}
 use Rattle.rules.specs.Authority.{mayAppoint, may}
 use Rattle.rules.specs.Doing.{after}
 use Rattle.rules.specs.Gains.{gives, handsOver}
-use Rattle.rules.specs.Refusals.{torn, unknown, misfit, stranger, offTheSheet, absent, wrongSort, alreadySo, noAuthority, ownGain, handOver, orphan}
+use Rattle.rules.specs.Refusals.{torn, unknown, misfit, stranger, offTheSheet, absent, wrongSort, alreadySo, noAuthority, ownGain}
+use Rattle.rules.specs.Refusals.{handOver, orphan}
 use Rattle.rules.specs.Judging.{codeOf, citedOf, done, verdictOn, verdict, judge, answers}
 use Rattle.rules.specs.Sample.{records, expected, further, furtherExpected, traps, trapsExpected, rows, rowsExpected}
 

@@ -13,7 +13,8 @@ use Rattle.reach.proofs.Deciding.{permitted-lowest, permitted-at}
 use Rattle.rules.specs.declared.Request.{Request}
 use Rattle.rules.specs.declared.Request.the-variants.{Make, Put, Take, Appoint, Dismiss, Grant, Withdraw, Use}
 use Rattle.rules.specs.declared.Verdict.{Verdict}
-use Rattle.rules.specs.declared.Verdict.the-variants.{Done, DoneBy, Torn, Unknown, Misfit, Stranger, OffTheSheet, Absent, WrongSort, AlreadySo, NoAuthority, OwnGain, HandOver, Orphan}
+use Rattle.rules.specs.declared.Verdict.the-variants.{Done, DoneBy, Torn, Unknown, Misfit, Stranger, OffTheSheet, Absent, WrongSort}
+use Rattle.rules.specs.declared.Verdict.the-variants.{AlreadySo, NoAuthority, OwnGain, HandOver, Orphan}
 use Rattle.rules.specs.declared.Answer.{Answer}
 use Rattle.rules.specs.Records.{sender, request}
 use Rattle.rules.specs.Judging.{codeOf, citedOf, doneBy, done, judge, OneAnswer}

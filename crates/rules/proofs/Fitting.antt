@@ -21,9 +21,11 @@ use Rattle.rules.specs.declared.Request.{Request}
 use Rattle.rules.specs.declared.Request.the-variants.{Make, Put, Take, Appoint, Dismiss, Grant, Withdraw, Use}
 use Rattle.rules.specs.Records.{lengthOf}
 use Rattle.rules.specs.Authority.{governs, mayAppoint, may}
-use Rattle.rules.specs.Refusals.{torn, unknown, misfit, stranger, oneToThree, offTheSheet, empty, absent, wrongSort, alreadySo, noAuthority}
+use Rattle.rules.specs.Refusals.{torn, unknown, misfit, stranger, oneToThree, offTheSheet, empty, absent, wrongSort, alreadySo}
+use Rattle.rules.specs.Refusals.{noAuthority}
 use Rattle.rules.specs.Allowing.{WellFormed, Governs, MayAppoint, as-owner, as-manager, Authority, Standing, Fits}
-use Rattle.rules.proofs.Passing.{Passes, passes-as, passes-all, passes-or, passes-not, passes-of, passes-ltb, passes-where, passes-either, decides-leb}
+use Rattle.rules.proofs.Passing.{Passes, passes-as, passes-all, passes-or, passes-not, passes-of, passes-ltb, passes-where}
+use Rattle.rules.proofs.Passing.{passes-either, decides-leb}
 
 -- ---- Checks 1 to 4
 

@@ -13,7 +13,8 @@ use Rattle.reach.proofs.Testing.{some-map}
 use Rattle.reach.proofs.Reaching.{under-trans}
 use Rattle.reach.proofs.Frames.{put-adds-only, under-appointed-back}
 use Rattle.reach.proofs.Appointing.{holds-appointed, administers-appointed, holds-new, administers-new}
-use Rattle.rules.specs.Allowing.{Privilege, owning, managing, administering, permission, Has, Gives, HandsOver, MayAppoint, as-owner, as-manager}
+use Rattle.rules.specs.Allowing.{Privilege, owning, managing, administering, permission, Has, Gives, HandsOver, MayAppoint, as-owner}
+use Rattle.rules.specs.Allowing.{as-manager}
 
 -- Who holds a group holds what is under it.
 holds-under : {v : View} {kind u x y : ℕ} → Under v x y → Holds v kind u y → Holds v kind u x

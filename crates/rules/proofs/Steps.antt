@@ -15,11 +15,14 @@ use Rattle.reach.proofs.Testing.{some-map, written-cases}
 use Rattle.reach.proofs.Sorts.{counted-known}
 use Rattle.reach.proofs.Reaching.{under-trans}
 use Rattle.reach.proofs.Frames.{made-under}
-use Rattle.reach.proofs.Carrying.{known-kind, Carried, RulesCarried, holds-carried, administers-carried, permitted-carried, All, put-carries, taken-carries-back, made-carries, made-carries-back, appointed-carries, dismissed-carries-back, ruled-carries, ruled-carries-back, withdrawn-rules, same-carries}
+use Rattle.reach.proofs.Carrying.{known-kind, Carried, RulesCarried, holds-carried, administers-carried, permitted-carried, All}
+use Rattle.reach.proofs.Carrying.{put-carries, taken-carries-back, made-carries, made-carries-back, appointed-carries}
+use Rattle.reach.proofs.Carrying.{dismissed-carries-back, ruled-carries, ruled-carries-back, withdrawn-rules, same-carries}
 use Rattle.reach.proofs.Appointing.{holds-appointed}
 use Rattle.rules.specs.declared.Request.{Request}
 use Rattle.rules.specs.declared.Request.the-variants.{Make, Put, Take, Appoint, Dismiss, Grant, Withdraw, Use}
-use Rattle.rules.specs.Allowing.{Privilege, owning, managing, administering, permission, Has, There, Gives, Comes, HandsOver, Owned, MayAppoint, as-owner, as-manager, Standing, viewAfter, Allowed}
+use Rattle.rules.specs.Allowing.{Privilege, owning, managing, administering, permission, Has, There, Gives, Comes, HandsOver, Owned}
+use Rattle.rules.specs.Allowing.{MayAppoint, as-owner, as-manager, Standing, viewAfter, Allowed}
 
 owner-stands : 0 < counted owner
 owner-stands = known-kind owner (omega arith) (omega arith)

@@ -16,7 +16,8 @@ use Rattle.rules.specs.declared.Request.the-variants.{Make, Put, Take, A
 use Rattle.rules.specs.declared.Verdict.{Verdict}
 use Rattle.rules.specs.Records.{sender, request}
 use Rattle.rules.specs.Doing.{after}
-use Rattle.rules.specs.Refusals.{torn, unknown, misfit, stranger, offTheSheet, absent, wrongSort, alreadySo, noAuthority, ownGain, handOver, orphan}
+use Rattle.rules.specs.Refusals.{torn, unknown, misfit, stranger, offTheSheet, absent, wrongSort, alreadySo, noAuthority, ownGain}
+use Rattle.rules.specs.Refusals.{handOver, orphan}
 use Rattle.rules.specs.Judging.{codeOf, doneBy, done, verdictOn, verdict, accepted, judge, numbersOf, answers}
 
 -- Each check by its name.

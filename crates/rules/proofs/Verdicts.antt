@@ -13,7 +13,8 @@ use Rattle.reach.proofs.Testing.{some-map, LowestAt}
 use Rattle.reach.proofs.Deciding.{permitted-lowest}
 use Rattle.rules.specs.declared.Request.the-variants.{Use}
 use Rattle.rules.specs.declared.Verdict.{Verdict}
-use Rattle.rules.specs.declared.Verdict.the-variants.{Done, DoneBy, Torn, Unknown, Misfit, Stranger, OffTheSheet, Absent, WrongSort, AlreadySo, NoAuthority, OwnGain, HandOver, Orphan}
+use Rattle.rules.specs.declared.Verdict.the-variants.{Done, DoneBy, Torn, Unknown, Misfit, Stranger, OffTheSheet, Absent, WrongSort}
+use Rattle.rules.specs.declared.Verdict.the-variants.{AlreadySo, NoAuthority, OwnGain, HandOver, Orphan}
 use Rattle.rules.specs.Records.{sender, request}
 use Rattle.rules.specs.Authority.{may}
 use Rattle.rules.specs.Refusals.{noAuthority}

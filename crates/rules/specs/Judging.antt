@@ -12,11 +12,13 @@ use Rattle.reach.specs.Privileges.{permitting}
 use Rattle.rules.specs.declared.Request.{Request}
 use Rattle.rules.specs.declared.Request.the-variants.{Make, Put, Take, Appoint, Dismiss, Grant, Withdraw, Use}
 use Rattle.rules.specs.declared.Verdict.{Verdict}
-use Rattle.rules.specs.declared.Verdict.the-variants.{Done, DoneBy, Torn, Unknown, Misfit, Stranger, OffTheSheet, Absent, WrongSort, AlreadySo, NoAuthority, OwnGain, HandOver, Orphan}
+use Rattle.rules.specs.declared.Verdict.the-variants.{Done, DoneBy, Torn, Unknown, Misfit, Stranger, OffTheSheet, Absent, WrongSort}
+use Rattle.rules.specs.declared.Verdict.the-variants.{AlreadySo, NoAuthority, OwnGain, HandOver, Orphan}
 use Rattle.rules.specs.declared.Answer.{Answer}
 use Rattle.rules.specs.Records.{sender, request}
 use Rattle.rules.specs.Doing.{after}
-use Rattle.rules.specs.Refusals.{torn, unknown, misfit, stranger, offTheSheet, absent, wrongSort, alreadySo, noAuthority, ownGain, handOver, orphan}
+use Rattle.rules.specs.Refusals.{torn, unknown, misfit, stranger, offTheSheet, absent, wrongSort, alreadySo, noAuthority, ownGain}
+use Rattle.rules.specs.Refusals.{handOver, orphan}
 
 -- Document 01's number for each verdict: 0 done, else the refusal's number in the table.
 unfoldable pub codeOf : Verdict → ℕ

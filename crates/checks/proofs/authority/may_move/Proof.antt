@@ -1,7 +1,7 @@
 -- Both are asked of the one set of what he governs.
 use mathlib.Core.Path.{_≡_, ap₂, _∙_}
 use mathlib.Core.Bool.{_&&_}
-use Rattle.checks.proofs.Masking.{governed-is}
+use Rattle.checks.proofs.Governing.{governed-is}
 use borrow.Author.Needs.{needs}
 use Rattle.checks.proofs.authority.may_move.Statement.{statement}
 use Rattle.checks.proofs.authority.may_move.Tie as tie

@@ -3,9 +3,10 @@ use Rattle.reach.proofs.WordSets.{has-is}
 use Rattle.reach.proofs.Deciding.{administers-decides}
 use Rattle.rules.specs.Authority.{may}
 use Rattle.rules.specs.Refusals.{noAuthority}
-use Rattle.checks.specs.Passing.{placeOf, permittingRule}
-use Rattle.checks.proofs.Masking.{governed-is, found-is}
-use Rattle.checks.proofs.Naming.{named-appointment, named-rule}
+use Rattle.forms.specs.Naming.{placeOf}
+use Rattle.checks.specs.Permitting.{permittingRule}
+use Rattle.checks.proofs.Governing.{governed-is, found-is}
+use Rattle.forms.proofs.Naming.{named-appointment, named-rule}
 use borrow.Author.Needs.{needs}
 use Rattle.checks.proofs.authority.no_authority.Statement.{statement}
 use Rattle.checks.proofs.authority.no_authority.Tie as tie

@@ -1,5 +1,5 @@
 -- A USE asks the rules, and no other kind does.
-use Rattle.checks.specs.Passing.{permittingRule}
+use Rattle.checks.specs.Permitting.{permittingRule}
 use borrow.Author.Needs.{needs}
 use Rattle.checks.proofs.authority.permitting_rule.Statement.{statement}
 use Rattle.checks.proofs.authority.permitting_rule.Tie as tie

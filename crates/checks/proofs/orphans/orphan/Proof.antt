@@ -2,7 +2,8 @@
 use mathlib.Core.Path.{_≡_, _∙_}
 use Rattle.rules.specs.Doing.{after}
 use Rattle.rules.specs.Refusals.{orphan}
-use Rattle.checks.proofs.Leaving.{masks-taken, masks-dismissed, orphan-taken, orphan-dismissed}
+use Rattle.checks.proofs.Leaving.{lent-taken, appointments-taken, orphan-taken}
+use Rattle.checks.proofs.Leaving.{lent-dismissed, appointments-dismissed, orphan-dismissed}
 use borrow.Author.Needs.{needs}
 use Rattle.checks.proofs.orphans.orphan.Statement.{statement}
 use Rattle.checks.proofs.orphans.orphan.Tie as tie
@@ -16,6 +17,9 @@ enum-known-q-2 c = search needs
 enum-known-q-3 : tie.Need-enum-known-q-3
 enum-known-q-3 c = search needs
 
+taken-from-requires : tie.Need-taken-from-requires
+taken-from-requires c κs = search needs
+
 orphaned-requires : tie.Need-orphaned-requires
 orphaned-requires c κs = search needs
 
@@ -24,6 +28,9 @@ enum-known-q-4 c = search needs
 
 enum-known-q-5 : tie.Need-enum-known-q-5
 enum-known-q-5 c = search needs
+
+appointed-at-requires : tie.Need-appointed-at-requires
+appointed-at-requires c κs = search needs
 
 orphaned-requires-2 : tie.Need-orphaned-requires-2
 orphaned-requires-2 c κs = search needs
@@ -39,39 +46,39 @@ enum-known-q-8 c = search needs
 
 returns : tie.Need-returns
 unfolding orphan
-returns c = λ p k e f. rw (c .before .q .given .1)
+returns c = λ p l f. rw (c .before .q .given .1)
 
 returns-2 : tie.Need-returns-2
 unfolding orphan
-returns-2 c = λ p k e f. rw (c .before .q2 .given .1)
+returns-2 c = λ p l f. rw (c .before .q2 .given .1)
 
 returns-3 : tie.Need-returns-3
 returns-3 c =
-    λ p k e f.
-    let q = c .before .before .q3 .given .1 in
-    c .orphaned .ensures (after p _) (record { rows = e; masks = masks-taken q k }) f ∙ orphan-taken p _ q
+    λ p l f.
+    let q = c .before .before .before .before .before .q3 .given .1 in
+    c .orphaned .ensures (after p _) (lent-taken p q l (c .before .before .taken-from .ensures)) (appointments-taken p q f) ∙ orphan-taken p q
 
 returns-4 : tie.Need-returns-4
 unfolding orphan
-returns-4 c = λ p k e f. rw (c .before .q4 .given .1)
+returns-4 c = λ p l f. rw (c .before .q4 .given .1)
 
 returns-5 : tie.Need-returns-5
 returns-5 c =
-    λ p k e f.
-    let q = c .before .before .q5 .given .1 in
-    c .orphaned2 .ensures (after p _) (record { rows = e; masks = masks-dismissed q k }) f ∙ orphan-dismissed p _ q
+    λ p l f.
+    let q = c .before .before .before .q5 .given .1 in
+    c .orphaned2 .ensures (after p _) (lent-dismissed p q l) (appointments-dismissed p q f (c .before .appointed-at .ensures)) ∙ orphan-dismissed p q
 
 returns-6 : tie.Need-returns-6
 unfolding orphan
-returns-6 c = λ p k e f. rw (c .before .q6 .given .1)
+returns-6 c = λ p l f. rw (c .before .q6 .given .1)
 
 returns-7 : tie.Need-returns-7
 unfolding orphan
-returns-7 c = λ p k e f. rw (c .before .q7 .given .1)
+returns-7 c = λ p l f. rw (c .before .q7 .given .1)
 
 returns-8 : tie.Need-returns-8
 unfolding orphan
-returns-8 c = λ p k e f. rw (c .before .q8 .given .1)
+returns-8 c = λ p l f. rw (c .before .q8 .given .1)
 
 pub orphan-spec : {M : Type 1} → statement M
 orphan-spec =
@@ -80,9 +87,11 @@ orphan-spec =
     enum-known-q
     enum-known-q-2
     enum-known-q-3
+    taken-from-requires
     orphaned-requires
     enum-known-q-4
     enum-known-q-5
+    appointed-at-requires
     orphaned-requires-2
     enum-known-q-6
     enum-known-q-7

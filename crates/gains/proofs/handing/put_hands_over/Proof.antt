@@ -19,7 +19,7 @@ returns c p m k q o =
     let own = held-set p _ k q (eqb-true _ 2 (o .user)) (c .before .before .before .held .ensures) in
     let free = set-mask (c .before .row .result) (set-not own) in
     hand-over-is p _ _ _ o k (m .users) (c .before .row .ensures) free q _
-    (decides-no (λ h. set-empty free (c .if1 .taken) _ (free .only _ (h .at .lacks .at .0))))
+    (decides-no (λ h. set-empty free (c .if1 .taken) _ (free .only _ (h .at .lacks .at .0 .now))))
 
 handed-requires : tie.Need-handed-requires
 handed-requires c κs = search needs

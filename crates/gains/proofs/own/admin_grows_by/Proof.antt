@@ -1,52 +1,18 @@
--- The tests of its kind and its holder refute what is asked, and else one of the two rows grows.
-use mathlib.Core.Path.{subst}
-use Prim.Native.Nat.{ℕ}
-use Rattle.reach.specs.Tests.{Decides}
-use Rattle.reach.proofs.Testing.{decides-as, decides-or}
-use Rattle.gains.specs.Rows.{Grows}
+-- The test of its kind refutes what is asked, and else it is what is asked of an appointment of any kind.
+use Rattle.reach.proofs.Testing.{decides-as}
 use Rattle.gains.proofs.News.{decides-no}
 use borrow.Author.Needs.{needs}
 use Rattle.gains.proofs.own.admin_grows_by.Statement.{statement}
 use Rattle.gains.proofs.own.admin_grows_by.Tie as tie
 
 returns : tie.Need-returns
-returns c = decides-no (λ h. c .if1 .taken (h .is-kind))
+returns c = decides-no (λ h. c .if1 .taken (h .0))
+
+grows-by-requires : tie.Need-grows-by-requires
+grows-by-requires c κs = search needs
 
 returns-2 : tie.Need-returns-2
-returns-2 c = decides-no (λ h. c .if2 .taken (h .is-holder))
-
-row-requires : tie.Need-row-requires
-row-requires c κs = search needs
-
-grows-requires : tie.Need-grows-requires
-grows-requires c κs = search needs
-
-row-requires-2 : tie.Need-row-requires-2
-row-requires-2 c κs = search needs
-
-grows-requires-2 : tie.Need-grows-requires-2
-grows-requires-2 c κs = search needs
-
-returns-3 : tie.Need-returns-3
-returns-3 c =
-    let first = c .before .before .before in
-    let his = first .before .before .before in
-    let a = his .before .before .before .before .args in
-    decides-as
-    (decides-or _ _
-    (subst (λ (s : ℕ). Decides (first .grows .result) (Grows s (a .g) (a .below))) (first .before .row .ensures) (first .grows .ensures))
-    (subst (λ (s : ℕ). Decides (c .grows2 .result) (Grows s (a .g) (a .below))) (c .before .row2 .ensures) (c .grows2 .ensures)))
-    (λ w. record { is-kind = his .before .before .if1 .left; is-holder = his .if2 .left; side = w })
-    (λ h. h .side)
+returns-2 c = decides-as (c .grows-by .ensures) (λ h. (c .before .if1 .left, h)) (λ h. h .1)
 
 pub admin-grows-by-spec : {M : Type 1} → statement M
-admin-grows-by-spec =
-    tie.close
-    (tie.spec
-    returns
-    returns-2
-    row-requires
-    grows-requires
-    row-requires-2
-    grows-requires-2
-    returns-3)
+admin-grows-by-spec = tie.close (tie.spec returns grows-by-requires returns-2)

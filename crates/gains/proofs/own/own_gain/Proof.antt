@@ -3,7 +3,7 @@ use mathlib.Core.Path.{_≡_, sym, ap, subst}
 use denote.Ref.{now}
 use Rattle.rules.specs.declared.Request.{Request}
 use Rattle.rules.specs.Refusals.{ownGain}
-use Rattle.checks.specs.Passing.{Authorised}
+use Rattle.rules.specs.Cleared.{Authorised}
 use Rattle.gains.specs.Giving.{RowsFor}
 use borrow.Author.Needs.{needs}
 use Rattle.gains.proofs.own.own_gain.Statement.{statement}

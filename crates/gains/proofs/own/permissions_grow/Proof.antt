@@ -1,10 +1,12 @@
--- Without a rule that grows there is no new permission, and else the first one that is new after PUT tells.
+-- There is no new permission if neither a target nor the sender is below the object, and none without a rule that grows. Else the first one
+-- that is new after PUT tells.
 use mathlib.Core.Path.{subst}
 use borrow.Author.Tests.{not-true}
-use Rattle.reach.proofs.Testing.{refuted}
+use Rattle.reach.proofs.Testing.{decides-at, decides-eqb, decides-and, decides-not, refuted}
+use Rattle.reach.proofs.WordSets.{has-decides}
 use Rattle.gains.specs.Rows.{FirstNew}
 use Rattle.gains.proofs.News.{decides-yes, decides-no}
-use Rattle.gains.proofs.Growing.{no-permission, permission-found, permission-none}
+use Rattle.gains.proofs.Growing.{no-target, no-permission, permission-found, permission-none}
 use borrow.Author.Needs.{needs}
 use Rattle.gains.proofs.own.permissions_grow.Statement.{statement}
 use Rattle.gains.proofs.own.permissions_grow.Tie as tie
@@ -12,14 +14,23 @@ use Rattle.gains.proofs.own.permissions_grow.Tie as tie
 row-requires : tie.Need-row-requires
 row-requires c κs = search needs
 
-rule-grows-requires : tie.Need-rule-grows-requires
-rule-grows-requires c κs = search needs
+has-requires : tie.Need-has-requires
+has-requires c κs = search needs
 
 returns : tie.Need-returns
 returns c p m k q o =
+    let out = decides-not _ (decides-at (c .before .has .ensures) (has-decides _ _)) in
+    let none = decides-and _ _ (decides-eqb _ 0) out .sound (c .if1 .taken) in
+    decides-no (no-target p _ _ _ o k (c .before .before .before .row .ensures) (m .targets) (none .0) (none .1))
+
+rule-grows-requires : tie.Need-rule-grows-requires
+rule-grows-requires c κs = search needs
+
+returns-2 : tie.Need-returns-2
+returns-2 c p m k q o =
     decides-no
-    (no-permission p _ _ _ o k (c .before .before .row .ensures) q
-    (refuted (c .before .rule-grows .ensures) (not-true _ (c .if1 .taken))))
+    (no-permission p _ _ _ o k (c .before .before .before .before .before .row .ensures) q
+    (refuted (c .before .rule-grows .ensures) (not-true _ (c .if2 .taken))))
 
 put-rows-requires : tie.Need-put-rows-requires
 put-rows-requires c κs = search needs
@@ -39,16 +50,16 @@ enum-known-x c = search needs
 enum-told : tie.Need-enum-told
 enum-told c = search needs
 
-returns-2 : tie.Need-returns-2
-returns-2 c p m k q o =
+returns-3 : tie.Need-returns-3
+returns-3 c p m k q o =
     let got = c .before .before .before .before in
     let had = got .before .before in
     decides-yes
     (permission-found p _ _ _ o k (had .before .put-rows .ensures) q (m .targets) (had .permitted .ensures) (got .permitted2 .ensures) _ _
     (subst (FirstNew _ _) (c .before .x .given .1) (c .before .before .before .gained .ensures)))
 
-returns-3 : tie.Need-returns-3
-returns-3 c p m k q o =
+returns-4 : tie.Need-returns-4
+returns-4 c p m k q o =
     let got = c .before .before .before in
     let had = got .before .before in
     decides-no
@@ -60,13 +71,15 @@ permissions-grow-spec =
     tie.close
     (tie.spec
     row-requires
-    rule-grows-requires
+    has-requires
     returns
+    rule-grows-requires
+    returns-2
     put-rows-requires
     permitted-requires
     permitted-requires-2
     gained-requires
     enum-known-x
     enum-told
-    returns-2
-    returns-3)
+    returns-3
+    returns-4)

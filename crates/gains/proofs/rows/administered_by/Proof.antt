@@ -14,13 +14,13 @@ returns : tie.Need-returns
 returns c =
     let a = c .before .before .args in
     let long : length (a .pairs) ≡ 64 = search needs in
-    joined-none _ long (λ j. let fits : Fits w64 (getD (a .pairs) j 0) = search needs in fits .fits) (λ i x q. c .if1 .taken (q .0 .0))
+    joined-none _ long (λ j. let fits : Fits w64 (getD (a .pairs) j 0) = search needs in fits .fits) (λ i x q. c .if1 .taken (q .0 .1))
 
 returns-2 : tie.Need-returns-2
 returns-2 c =
     let a = c .before .before .before .before .args in
     let long : length (a .pairs) ≡ 64 = search needs in
-    joined-none _ long (λ j. let fits : Fits w64 (getD (a .pairs) j 0) = search needs in fits .fits) (λ i x q. c .if2 .taken (q .0 .1))
+    joined-none _ long (λ j. let fits : Fits w64 (getD (a .pairs) j 0) = search needs in fits .fits) (λ i x q. c .if2 .taken (q .0 .0))
 
 row-requires : tie.Need-row-requires
 row-requires c κs = search needs
@@ -35,8 +35,8 @@ returns-3 : tie.Need-returns-3
 returns-3 c =
     let first = c .before .before .before .row .ensures in
     let second = c .before .row2 .ensures in
-    let kind = c .before .before .before .before .before .before .before .if1 .left in
-    let holder = c .before .before .before .before .before .if2 .left in
+    let holder = c .before .before .before .before .before .before .before .if1 .left in
+    let kind = c .before .before .before .before .before .if2 .left in
     joined-as
     _
     (c .spread .ensures)

@@ -1,95 +1,54 @@
--- PUT asks for the closure, and the other kinds get zeros.
-use mathlib.Core.Path.{_≡_, refl, sym, subst}
+-- PUT asks for the closure, and the other kinds get zeros. By cases on the request.
+use borrow.Author.Tests.{not-true, not-false}
+use mathlib.Core.Path.{_≡_, refl, sym, _∙_}
+use mathlib.Core.Bool.{true, false, false≢true, true≢false}
 use mathlib.Core.List.{List}
 use Prim.Native.Nat.{ℕ}
+use lib.ListN.{replicate}
 use Rattle.reach.specs.declared.Policy.{Policy}
+use Rattle.reach.specs.Surveys.{ClosureOf}
 use Rattle.rules.specs.declared.Request.{Request}
-use Rattle.gains.specs.Giving.{RowsFor}
+use Rattle.rules.specs.declared.Request.the-variants.{Make, Put, Take, Appoint, Dismiss, Grant, Withdraw, Use}
+use Rattle.gains.specs.Giving.{isPut, RowsFor}
 use borrow.Author.Needs.{needs}
 use Rattle.gains.proofs.rows.rows_for.Statement.{statement}
 use Rattle.gains.proofs.rows.rows_for.Tie as tie
 
--- A request that is known by its fields asks for the same rows.
-rows-of : (p : Policy) {q r : Request} (l : List ℕ) → q ≡ r → RowsFor p r l → RowsFor p q l
-rows-of p l e w = subst (λ (q : Request). RowsFor p q l) (sym e) w
+-- The closure is what a PUT asks for, and zeros are what any other kind gets.
+closure-for : (p : Policy) (q : Request) (l : List ℕ) → isPut q ≡ true → ClosureOf p l → RowsFor p q l
+unfolding RowsFor
+closure-for p (Make i s g) l e c = absurd (false≢true e)
+closure-for p (Put x g) l e c = c
+closure-for p (Take x g) l e c = absurd (false≢true e)
+closure-for p (Appoint i k h a b) l e c = absurd (false≢true e)
+closure-for p (Dismiss i) l e c = absurd (false≢true e)
+closure-for p (Grant i u t o) l e c = absurd (false≢true e)
+closure-for p (Withdraw i) l e c = absurd (false≢true e)
+closure-for p (Use x k) l e c = absurd (false≢true e)
 
-enum-known-q : tie.Need-enum-known-q
-enum-known-q c = search needs
+zeros-for : (p : Policy) (q : Request) (l : List ℕ) → isPut q ≡ false → l ≡ replicate 64 0 → RowsFor p q l
+unfolding RowsFor
+zeros-for p (Make i s g) l e z = z
+zeros-for p (Put x g) l e z = absurd (true≢false e)
+zeros-for p (Take x g) l e z = z
+zeros-for p (Appoint i k h a b) l e z = z
+zeros-for p (Dismiss i) l e z = z
+zeros-for p (Grant i u t o) l e z = z
+zeros-for p (Withdraw i) l e z = z
+zeros-for p (Use x k) l e z = z
 
-enum-known-q-2 : tie.Need-enum-known-q-2
-enum-known-q-2 c = search needs
+is-put-requires : tie.Need-is-put-requires
+is-put-requires c κs = search needs
+
+returns : tie.Need-returns
+returns c p l = zeros-for p _ _ (sym (c .before .is-put .ensures) ∙ not-true _ (c .if1 .taken)) refl
 
 closure-requires : tie.Need-closure-requires
 closure-requires c κs = search needs
 
-enum-known-q-3 : tie.Need-enum-known-q-3
-enum-known-q-3 c = search needs
-
-enum-known-q-4 : tie.Need-enum-known-q-4
-enum-known-q-4 c = search needs
-
-enum-known-q-5 : tie.Need-enum-known-q-5
-enum-known-q-5 c = search needs
-
-enum-known-q-6 : tie.Need-enum-known-q-6
-enum-known-q-6 c = search needs
-
-enum-known-q-7 : tie.Need-enum-known-q-7
-enum-known-q-7 c = search needs
-
-enum-known-q-8 : tie.Need-enum-known-q-8
-enum-known-q-8 c = search needs
-
-returns : tie.Need-returns
-unfolding RowsFor
-returns c p l = rows-of p _ (c .before .q .given .1) refl
-
 returns-2 : tie.Need-returns-2
-unfolding RowsFor
-returns-2 c p l = rows-of p _ (c .before .before .q2 .given .1) (c .closure .ensures p l)
-
-returns-3 : tie.Need-returns-3
-unfolding RowsFor
-returns-3 c p l = rows-of p _ (c .before .q3 .given .1) refl
-
-returns-4 : tie.Need-returns-4
-unfolding RowsFor
-returns-4 c p l = rows-of p _ (c .before .q4 .given .1) refl
-
-returns-5 : tie.Need-returns-5
-unfolding RowsFor
-returns-5 c p l = rows-of p _ (c .before .q5 .given .1) refl
-
-returns-6 : tie.Need-returns-6
-unfolding RowsFor
-returns-6 c p l = rows-of p _ (c .before .q6 .given .1) refl
-
-returns-7 : tie.Need-returns-7
-unfolding RowsFor
-returns-7 c p l = rows-of p _ (c .before .q7 .given .1) refl
-
-returns-8 : tie.Need-returns-8
-unfolding RowsFor
-returns-8 c p l = rows-of p _ (c .before .q8 .given .1) refl
+returns-2 c p l =
+    closure-for p _ _ (sym (c .before .before .is-put .ensures) ∙ not-false _ (c .before .if1 .left)) (c .closure .ensures p l)
 
 pub rows-for-spec : {M : Type 1} → statement M
-rows-for-spec =
-    tie.close
-    (tie.spec
-    enum-known-q
-    enum-known-q-2
-    closure-requires
-    enum-known-q-3
-    enum-known-q-4
-    enum-known-q-5
-    enum-known-q-6
-    enum-known-q-7
-    enum-known-q-8
-    returns
-    returns-2
-    returns-3
-    returns-4
-    returns-5
-    returns-6
-    returns-7
-    returns-8)
+rows-for-spec = tie.close (tie.spec is-put-requires returns closure-requires returns-2)

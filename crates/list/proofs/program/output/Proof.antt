@@ -6,7 +6,7 @@ use Rattle.list.proofs.program.output.Tie as tie
 use Rattle.list.proofs.program.output.Reads as reads
 use Rattle.list.proofs.program.output.Lts as lts
 use Rattle.list.proofs.program.report.Reads as report-reads
-use Rattle.list.proofs.text.put_bytes.Reads as put-bytes-reads
+use Rattle.text.proofs.put_bytes.Reads as put-bytes-reads
 
 slice-aggregate-put-bytes : tie.Need-slice-aggregate-put-bytes
 slice-aggregate-put-bytes c = search needs

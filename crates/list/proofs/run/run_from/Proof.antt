@@ -3,7 +3,8 @@
 use Prim.Native.Nat.{_-_}
 use native.Mathlib.Omega.{arith}
 use lib.ListN.{length}
-use Rattle.list.proofs.Running.{Running, running-start, running-step, running-end, running-codes, running-cited, too-few-codes, too-few-cited}
+use Rattle.list.proofs.Running.{Running, running-start, running-step, running-end, running-codes, running-cited, too-few-codes}
+use Rattle.list.proofs.Running.{too-few-cited}
 use borrow.Author.Needs.{needs}
 use Rattle.list.proofs.run.run_from.Statement.{statement}
 use Rattle.list.proofs.run.run_from.Tie as tie

@@ -5,10 +5,10 @@ use Rattle.reach.proofs.privileges.administered_by.Statement.{statement
 use Rattle.reach.proofs.privileges.administered_by.Tie as tie
 
 returns : tie.Need-returns
-returns c = λ p k. set-none (λ x h. c .if1 .taken (h .0 .0))
+returns c = λ p k. set-none (λ x h. c .if1 .taken (h .0 .1))
 
 returns-2 : tie.Need-returns-2
-returns-2 c = λ p k. set-none (λ x h. c .if2 .taken (h .0 .1))
+returns-2 c = λ p k. set-none (λ x h. c .if2 .taken (h .0 .0))
 
 search-requires : tie.Need-search-requires
 search-requires c κs = search needs
@@ -28,7 +28,7 @@ returns-4 c = λ p k.
     set-as
     (c .search2 .ensures p k)
     (λ x r. (
-      (c .before .before .before .before .before .before .if1 .left, c .before .before .before .before .if2 .left),
+      (c .before .before .before .before .if2 .left, c .before .before .before .before .before .before .if1 .left),
       (set-inside _ (c .before .before .has .ensures) (c .before .if3 .left) (c .before .before .before .search .ensures p k), r),
     ))
     (λ x h. h .1 .1)

@@ -10,7 +10,7 @@ use Rattle.reach.specs.Tests.{some}
 use Rattle.reach.specs.Tables.{noRule}
 use Rattle.reach.specs.Privileges.{permitsBy, askable}
 use Rattle.reach.specs.Surveys.{Whose, Told}
-use Rattle.reach.proofs.Testing.{none-start, none-end, refuted}
+use Rattle.reach.proofs.Testing.{none-start, none-end, refuted, decides-true}
 use Rattle.reach.proofs.Deciding.{askable-is, permitting-not, permitting-none, permitting-at}
 use Rattle.reach.proofs.Asking.{told-none, told-at, told-decides, Fit, decides-fit, fit-of, permits-next, permits-at}
 use borrow.Author.Needs.{needs}
@@ -33,14 +33,14 @@ asked c p t =
     sym (askable-is p _ _ _ (t .masks .users) (t .masks .targets) _ _ (c .before .before .has .ensures) (c .before .has2 .ensures))
     ∙ not-false _ (c .if1 .left)
 
-fit : (c : tie.Then2 Inv-loop μ-loop)
+fit : (c : tie.Then3 Inv-loop μ-loop)
     → let l = c .before .before .before .before .before .before .before .before in
     let a = l .before .before .before .before .args in
     Fit (getD (a .t3) (l .loop .i) noRule) (a .k)
 fit c =
     let l = c .before .before .before .before .before .before .before .before in
     let rule = getD (l .before .before .before .before .args .t3) (l .loop .i) noRule in
-    decides-fit rule _ _ (c .before .before .before .before .has3 .ensures) .sound (c .if2 .taken)
+    decides-fit rule _ _ (c .before .before .before .has3 .ensures) .sound (c .if3 .taken)
 
 has-requires : tie.Need-has-requires Inv-loop μ-loop
 has-requires c κs = search needs
@@ -92,11 +92,11 @@ returns-2 c = λ p t e.
     let f = c .before .before .before .before .before .ask .ensures p t (k .0 .0) in
     let g = c .before .before .ask2 .ensures p t (k .0 .1) in
     let user =
-    told-decides p _ (f .0) _ (f .1) .sound (sym (c .before .before .before .before .has4 .ensures) ∙ c .before .before .before .if3 .taken)
+    told-decides p _ (f .0) _ (f .1) .sound (sym (c .before .before .before .before .has4 .ensures) ∙ c .before .before .before .if4 .taken)
     in
-    let target = told-decides p _ (g .0) _ (g .1) .sound (sym (c .before .has5 .ensures) ∙ c .if4 .taken) in
+    let target = told-decides p _ (g .0) _ (g .1) .sound (sym (c .before .has5 .ensures) ∙ c .if5 .taken) in
     permitting-at p _ _ _ _ (asked (l .before) p t) (v .before .before .before .before .before .before .before .loop-test .taken) (k .1)
-    (permits-at p e _ _ _ _ (fit v .0 .0, (user, target)))
+    (permits-at p e _ _ _ _ ((v .before .before .before .before .before .if2 .taken, fit v .0 .0), (user, target)))
 
 add-i : tie.Need-add-i Inv-loop μ-loop
 add-i c = search needs
@@ -106,7 +106,7 @@ loop-less c = search needs
 
 loop-again : tie.Need-loop-again Inv-loop μ-loop
 loop-again c =
-    let l = c .before .before .before .before .before .before .before .before in
+    let l = c .before .before .before in
     let a = l .before .before .before .before .args in
     let rule = getD (a .t3) (l .loop .i) noRule in (
       search needs,
@@ -114,20 +114,22 @@ loop-again c =
           let k = l .loop .inv .1 p t e in
           ⊎-elim
           (λ w.
-          let f = w .1 .ensures p t (k .0 .0) in
-          let g = w .4 .ensures p t (k .0 .1) in
-          let no = refuted (told-decides p _ (g .0) _ (g .1)) (sym (w .5 .ensures) ∙ w .6 .left) in
-          ((told-at p _ (w .7) (f .0), told-at p _ (w .8) (g .0)), permits-next p e _ _ _ _ (k .1) (λ h. no (h .1 .1))))
-          (λ v.
-          ⊎-elim
+          let f = w .6 .ensures p t (k .0 .0) in
+          let g = w .9 .ensures p t (k .0 .1) in
+          let no = refuted (told-decides p _ (g .0) _ (g .1)) (sym (w .10 .ensures) ∙ w .11 .left) in
+          ((told-at p _ (w .12) (f .0), told-at p _ (w .13) (g .0)), permits-next p e _ _ _ _ (k .1) (λ h. no (h .1 .1))))
+          (⊎-elim
           (λ w.
-          let f = w .1 .ensures p t (k .0 .0) in
-          let no = refuted (told-decides p _ (f .0) _ (f .1)) (sym (w .2 .ensures) ∙ w .3 .left) in
-          ((told-at p _ (w .4) (f .0), told-at p _ (w .5) (k .0 .1)), permits-next p e _ _ _ _ (k .1) (λ h. no (h .1 .0))))
+          let f = w .6 .ensures p t (k .0 .0) in
+          let no = refuted (told-decides p _ (f .0) _ (f .1)) (sym (w .7 .ensures) ∙ w .8 .left) in
+          ((told-at p _ (w .9) (f .0), told-at p _ (w .10) (k .0 .1)), permits-next p e _ _ _ _ (k .1) (λ h. no (h .1 .0))))
+          (⊎-elim
           (λ w.
-          let no = refuted (decides-fit rule (a .k) _ (c .before .before .before .before .has3 .ensures)) (w .0 .left) in
-          ((told-at p _ (w .1) (k .0 .0), told-at p _ (w .2) (k .0 .1)), permits-next p e _ _ _ _ (k .1) (λ h. no (fit-of p rule _ _ _ h))))
-          v)
+          let no = refuted (decides-fit rule (a .k) _ (w .2 .ensures)) (w .5 .left) in
+          ((told-at p _ (w .6) (k .0 .0), told-at p _ (w .7) (k .0 .1)), permits-next p e _ _ _ _ (k .1) (λ h. no (fit-of p rule _ _ _ h))))
+          (λ w.
+          let no = refuted (decides-true (rule .used)) (w .0 .left) in
+          ((told-at p _ (w .1) (k .0 .0), told-at p _ (w .2) (k .0 .1)), permits-next p e _ _ _ _ (k .1) (λ h. no (h .0 .0))))))
           (c .if2 .came),
     )
 

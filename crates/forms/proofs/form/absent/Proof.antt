@@ -1,0 +1,145 @@
+-- Check 6, kind by kind: the masks say what is in use, and what stands at the place named is given.
+use Rattle.rules.specs.Refusals.{absent}
+use Rattle.forms.specs.Naming.{placeOf}
+use Rattle.forms.proofs.Masking.{in-use-is}
+use Rattle.forms.proofs.Naming.{named-appointment, named-rule}
+use borrow.Author.Needs.{needs}
+use Rattle.forms.proofs.form.absent.Statement.{statement}
+use Rattle.forms.proofs.form.absent.Tie as tie
+
+enum-known-q : tie.Need-enum-known-q
+enum-known-q c = search needs
+
+has-requires : tie.Need-has-requires
+has-requires c κs = search needs
+
+enum-known-q-2 : tie.Need-enum-known-q-2
+enum-known-q-2 c = search needs
+
+has-requires-2 : tie.Need-has-requires-2
+has-requires-2 c κs = search needs
+
+has-requires-3 : tie.Need-has-requires-3
+has-requires-3 c κs = search needs
+
+enum-known-q-3 : tie.Need-enum-known-q-3
+enum-known-q-3 c = search needs
+
+has-requires-4 : tie.Need-has-requires-4
+has-requires-4 c κs = search needs
+
+has-requires-5 : tie.Need-has-requires-5
+has-requires-5 c κs = search needs
+
+enum-known-q-4 : tie.Need-enum-known-q-4
+enum-known-q-4 c = search needs
+
+has-requires-6 : tie.Need-has-requires-6
+has-requires-6 c κs = search needs
+
+has-requires-7 : tie.Need-has-requires-7
+has-requires-7 c κs = search needs
+
+has-requires-8 : tie.Need-has-requires-8
+has-requires-8 c κs = search needs
+
+enum-known-q-5 : tie.Need-enum-known-q-5
+enum-known-q-5 c = search needs
+
+standing-requires : tie.Need-standing-requires
+standing-requires c κs = search needs
+
+enum-known-q-6 : tie.Need-enum-known-q-6
+enum-known-q-6 c = search needs
+
+has-requires-9 : tie.Need-has-requires-9
+has-requires-9 c κs = search needs
+
+has-requires-10 : tie.Need-has-requires-10
+has-requires-10 c κs = search needs
+
+enum-known-q-7 : tie.Need-enum-known-q-7
+enum-known-q-7 c = search needs
+
+enum-known-q-8 : tie.Need-enum-known-q-8
+enum-known-q-8 c = search needs
+
+has-requires-11 : tie.Need-has-requires-11
+has-requires-11 c κs = search needs
+
+returns : tie.Need-returns
+unfolding absent
+returns c = λ p k n. rw (c .before .before .q .given .1, c .has .ensures, in-use-is k _)
+
+returns-2 : tie.Need-returns-2
+unfolding absent
+returns-2 c =
+    λ p k n. rw (c .before .before .before .q2 .given .1, c .before .has2 .ensures, in-use-is k _, c .has3 .ensures, in-use-is k _)
+
+returns-3 : tie.Need-returns-3
+unfolding absent
+returns-3 c =
+    λ p k n. rw (c .before .before .before .q3 .given .1, c .before .has4 .ensures, in-use-is k _, c .has5 .ensures, in-use-is k _)
+
+returns-4 : tie.Need-returns-4
+unfolding absent
+returns-4 c =
+    λ p k n. rw (
+      c .before .before .before .before .q4 .given .1,
+      c .before .before .has6 .ensures,
+      in-use-is k _,
+      c .before .has7 .ensures,
+      in-use-is k _,
+      c .has8 .ensures,
+      in-use-is k _,
+    )
+
+returns-5 : tie.Need-returns-5
+unfolding absent placeOf
+returns-5 c = λ p k n. rw (c .before .before .q5 .given .1, c .standing .ensures, named-appointment (c .before .before .q5 .given .1) n)
+
+returns-6 : tie.Need-returns-6
+unfolding absent
+returns-6 c =
+    λ p k n. rw (c .before .before .before .q6 .given .1, c .before .has9 .ensures, in-use-is k _, c .has10 .ensures, in-use-is k _)
+
+returns-7 : tie.Need-returns-7
+unfolding absent placeOf
+returns-7 c = λ p k n. rw (c .before .before .q7 .given .1, named-rule (c .before .before .q7 .given .1) n)
+
+returns-8 : tie.Need-returns-8
+unfolding absent
+returns-8 c = λ p k n. rw (c .before .before .q8 .given .1, c .has11 .ensures, in-use-is k _)
+
+pub absent-spec : {M : Type 1} → statement M
+absent-spec =
+    tie.close
+    (tie.spec
+    enum-known-q
+    has-requires
+    enum-known-q-2
+    has-requires-2
+    has-requires-3
+    enum-known-q-3
+    has-requires-4
+    has-requires-5
+    enum-known-q-4
+    has-requires-6
+    has-requires-7
+    has-requires-8
+    enum-known-q-5
+    standing-requires
+    enum-known-q-6
+    has-requires-9
+    has-requires-10
+    enum-known-q-7
+    enum-known-q-8
+    has-requires-11
+    returns
+    returns-2
+    returns-3
+    returns-4
+    returns-5
+    returns-6
+    returns-7
+    returns-8)

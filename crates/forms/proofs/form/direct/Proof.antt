@@ -1,0 +1,35 @@
+-- Direct membership, by the masks and the row.
+use Rattle.reach.specs.Tables.{stored}
+use Rattle.reach.specs.Reach.{direct}
+use Rattle.forms.proofs.Masking.{in-use-is, group-is}
+use borrow.Author.Needs.{needs}
+use Rattle.forms.proofs.form.direct.Statement.{statement}
+use Rattle.forms.proofs.form.direct.Tie as tie
+
+has-requires : tie.Need-has-requires
+has-requires c κs = search needs
+
+has-requires-2 : tie.Need-has-requires-2
+has-requires-2 c κs = search needs
+
+row-requires : tie.Need-row-requires
+row-requires c κs = search needs
+
+has-requires-3 : tie.Need-has-requires-3
+has-requires-3 c κs = search needs
+
+returns : tie.Need-returns
+unfolding direct stored
+returns c =
+    λ p l. rw (
+      c .before .before .before .before .has .ensures,
+      in-use-is (l .masks) _,
+      c .before .before .before .has2 .ensures,
+      group-is (l .masks) _,
+      c .has3 .ensures,
+      c .before .row .ensures,
+      l .rows,
+    )
+
+pub direct-spec : {M : Type 1} → statement M
+direct-spec = tie.close (tie.spec has-requires has-requires-2 row-requires has-requires-3 returns)

@@ -1,0 +1,16 @@
+-- Check 4, by the masks.
+use mathlib.Core.Path.{_≡_, ap, _∙_}
+use mathlib.Core.Bool.{not}
+use Rattle.forms.proofs.Masking.{stranger-is}
+use borrow.Author.Needs.{needs}
+use Rattle.forms.proofs.form.stranger.Statement.{statement}
+use Rattle.forms.proofs.form.stranger.Tie as tie
+
+has-requires : tie.Need-has-requires
+has-requires c κs = search needs
+
+returns : tie.Need-returns
+returns c = λ p k. ap not (c .has .ensures) ∙ stranger-is k _
+
+pub stranger-spec : {M : Type 1} → statement M
+stranger-spec = tie.close (tie.spec has-requires returns)

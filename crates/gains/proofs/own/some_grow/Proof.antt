@@ -1,0 +1,70 @@
+-- Place by place: no appointment below i grows, and one that does answers.
+use native.Mathlib.Omega.{arith}
+use Prim.Native.Nat.{ℕ, _-_, _≤_, _<_}
+use borrow.Author.Count.{below-more}
+use lib.ListN.{getD}
+use Rattle.reach.specs.Tables.{noAppointment}
+use Rattle.gains.specs.Rows.{AnyGrows}
+use Rattle.reach.proofs.Testing.{refuted}
+use Rattle.gains.proofs.News.{decides-yes, decides-no}
+use borrow.Author.Needs.{needs}
+use Rattle.gains.proofs.own.some_grow.Statement.{statement}
+use Rattle.gains.proofs.own.some_grow.Tie as tie
+
+abbrev Inv-loop : tie.InvT-loop
+Inv-loop rows u g below appointments i₀ i = (i ≤ 32) × ((j : ℕ) → j < i → AnyGrows (getD appointments j noAppointment) rows u g below → ⊥)
+
+abbrev μ-loop : tie.MeasureT-loop
+μ-loop rows u g below appointments i₀ i = 32 - i
+
+loop-holds : tie.Need-loop-holds Inv-loop μ-loop
+loop-holds c = (search needs, λ j l. absurd (omega (arith, l)))
+
+mul-grows-by : tie.Need-mul-grows-by Inv-loop μ-loop
+mul-grows-by c = search needs
+
+array-copy-out-grows-by : tie.Need-array-copy-out-grows-by Inv-loop μ-loop
+array-copy-out-grows-by c = search needs
+
+grows-by-requires : tie.Need-grows-by-requires Inv-loop μ-loop
+grows-by-requires c κs = search needs
+
+returns : tie.Need-returns Inv-loop μ-loop
+returns c =
+    decides-yes
+    (record {
+      place = c .before .before .before .before .loop .i;
+      low = search needs;
+      at = c .before .grows-by .ensures .sound (c .if1 .taken);
+    })
+
+add-i : tie.Need-add-i Inv-loop μ-loop
+add-i c = search needs
+
+loop-less : tie.Need-loop-less Inv-loop μ-loop
+loop-less c = search needs
+
+loop-again : tie.Need-loop-again Inv-loop μ-loop
+loop-again c = (
+  search needs,
+  below-more _ _ (c .before .before .before .before .loop .inv .1) (λ h. refuted (c .before .grows-by .ensures) (c .if1 .left) h),
+)
+
+returns-2 : tie.Need-returns-2 Inv-loop μ-loop
+returns-2 c = decides-no (λ w. c .before .loop .inv .1 (w .place) (omega (arith, w .low, c .loop-test .left)) (w .at))
+
+pub some-grow-spec : {M : Type 1} → statement M
+some-grow-spec =
+    tie.close
+    (tie.spec
+    Inv-loop
+    μ-loop
+    loop-holds
+    mul-grows-by
+    array-copy-out-grows-by
+    grows-by-requires
+    returns
+    add-i
+    loop-less
+    loop-again
+    returns-2)

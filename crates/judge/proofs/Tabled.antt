@@ -1,0 +1,88 @@
+-- The tables after a request, each worked out by itself, are those of the policy after.
+use mathlib.Core.Path.{_≡_, refl, sym, ap, _∙_}
+use mathlib.Core.Bool.{Bool, true, false, true≢false}
+use mathlib.Core.List.{List}
+use Prim.Native.Nat.{ℕ}
+use Rattle.reach.specs.declared.Policy.{Policy}
+use Rattle.reach.specs.declared.Appointment.{Appointment}
+use Rattle.reach.specs.declared.AccessRule.{AccessRule}
+use Rattle.reach.specs.declared.Masks.{Masks}
+use Rattle.reach.specs.Surveys.{MasksOf}
+use Rattle.reach.specs.Tables.{noAppointment, noRule}
+use Rattle.reach.proofs.Sorts.{masks-same}
+use Rattle.reach.proofs.AsRead.{made-sorts, made-members, made-appointments, made-rules}
+use Rattle.reach.proofs.AsRead.{put-sorts, put-members, put-appointments, put-rules}
+use Rattle.reach.proofs.AsRead.{taken-sorts, taken-members, taken-appointments, taken-rules}
+use Rattle.reach.proofs.AsRead.{appointed-sorts, appointed-members, appointed-appointments, appointed-rules}
+use Rattle.reach.proofs.AsRead.{ruled-sorts, ruled-members, ruled-appointments, ruled-rules}
+use Rattle.rules.specs.declared.Request.{Request}
+use Rattle.rules.specs.declared.Request.the-variants.{Make, Put, Take, Appoint, Dismiss, Grant, Withdraw, Use}
+use Rattle.rules.specs.Doing.{after}
+use Rattle.judge.specs.Answering.{makes}
+use Rattle.judge.specs.ByTable.{sortsAfter, membersAfter, appointmentsAfter, rulesAfter}
+
+pub sorts-after : (p : Policy) (q : Request) → after p q .sorts ≡ sortsAfter (p .sorts) q
+unfolding after
+sorts-after p (Make i s g) = made-sorts p i s g
+sorts-after p (Put x g) = put-sorts p x g
+sorts-after p (Take x g) = taken-sorts p x g
+sorts-after p (Appoint i k h a b) = appointed-sorts p i _
+sorts-after p (Dismiss i) = appointed-sorts p i noAppointment
+sorts-after p (Grant i u t o) = ruled-sorts p i _
+sorts-after p (Withdraw i) = ruled-sorts p i noRule
+sorts-after p (Use x k) = refl
+
+pub members-after : (p : Policy) (q : Request) → after p q .members ≡ membersAfter (p .members) q
+unfolding after
+members-after p (Make i s g) = made-members p i s g
+members-after p (Put x g) = put-members p x g
+members-after p (Take x g) = taken-members p x g
+members-after p (Appoint i k h a b) = appointed-members p i _
+members-after p (Dismiss i) = appointed-members p i noAppointment
+members-after p (Grant i u t o) = ruled-members p i _
+members-after p (Withdraw i) = ruled-members p i noRule
+members-after p (Use x k) = refl
+
+pub appointments-after : (p : Policy) (q : Request) → after p q .appointments ≡ appointmentsAfter (p .appointments) q
+unfolding after
+appointments-after p (Make i s g) = made-appointments p i s g
+appointments-after p (Put x g) = put-appointments p x g
+appointments-after p (Take x g) = taken-appointments p x g
+appointments-after p (Appoint i k h a b) = appointed-appointments p i _
+appointments-after p (Dismiss i) = appointed-appointments p i noAppointment
+appointments-after p (Grant i u t o) = ruled-appointments p i _
+appointments-after p (Withdraw i) = ruled-appointments p i noRule
+appointments-after p (Use x k) = refl
+
+pub rules-after : (p : Policy) (q : Request) → after p q .rules ≡ rulesAfter (p .rules) q
+unfolding after
+rules-after p (Make i s g) = made-rules p i s g
+rules-after p (Put x g) = put-rules p x g
+rules-after p (Take x g) = taken-rules p x g
+rules-after p (Appoint i k h a b) = appointed-rules p i _
+rules-after p (Dismiss i) = appointed-rules p i noAppointment
+rules-after p (Grant i u t o) = ruled-rules p i _
+rules-after p (Withdraw i) = ruled-rules p i noRule
+rules-after p (Use x k) = refl
+
+-- A policy of the four tables is the policy after.
+pub after-is : (p : Policy) (q : Request) {s m : List ℕ} {a : List Appointment} {r : List AccessRule}
+    → s ≡ sortsAfter (p .sorts) q → m ≡ membersAfter (p .members) q → a ≡ appointmentsAfter (p .appointments) q → r ≡ rulesAfter (p .rules) q
+    → record { sorts = s; members = m; appointments = a; rules = r } ≡ after p q
+after-is p q e f g h =
+    rw
+    (e ∙ sym (sorts-after p q), f ∙ sym (members-after p q), g ∙ sym (appointments-after p q), h ∙ sym (rules-after p q))
+
+-- But for MAKE every request leaves the sorts as they were, and with them the masks.
+sorts-stay : (l : List ℕ) (q : Request) → makes q ≡ false → sortsAfter l q ≡ l
+sorts-stay l (Make i s g) e = absurd (true≢false e)
+sorts-stay l (Put x g) e = refl
+sorts-stay l (Take x g) e = refl
+sorts-stay l (Appoint i k h a b) e = refl
+sorts-stay l (Dismiss i) e = refl
+sorts-stay l (Grant i u t o) e = refl
+sorts-stay l (Withdraw i) e = refl
+sorts-stay l (Use x k) e = refl
+
+pub masks-stay : (p : Policy) (q : Request) {m : Masks} → makes q ≡ false → MasksOf p m → MasksOf (after p q) m
+masks-stay p q e k = masks-same p (after p q) (sorts-after p q ∙ sorts-stay (p .sorts) q e) k

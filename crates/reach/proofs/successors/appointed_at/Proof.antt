@@ -1,0 +1,27 @@
+-- A store at a place of the table, and past its end `set` changes nothing.
+use mathlib.Core.Path.{_≡_, sym}
+use native.Mathlib.Omega.{arith}
+use lib.ListN.{length}
+use lib.Seq.{set-out}
+use Rattle.reach.proofs.Lists.{length-mapped}
+use borrow.Author.Needs.{needs}
+use Rattle.reach.proofs.successors.appointed_at.Statement.{statement}
+use Rattle.reach.proofs.successors.appointed_at.Tie as tie
+
+returns : tie.Need-returns
+returns c =
+    let a = c .before .args in
+    let long : length (a .t1) ≡ 32 = search (needs, length-mapped) in
+    sym (set-out (a .t1) (a .i) _ (omega (arith, long, c .if1 .taken)))
+
+mul-appointments : tie.Need-mul-appointments
+mul-appointments c = search needs
+
+array-set-from-appointments : tie.Need-array-set-from-appointments
+array-set-from-appointments c = search needs
+
+returns-2 : tie.Need-returns-2
+returns-2 c = search needs
+
+pub appointed-at-spec : {M : Type 1} → statement M
+appointed-at-spec = tie.close (tie.spec returns mul-appointments array-set-from-appointments returns-2)

@@ -1,0 +1,27 @@
+-- A store at a place of the table, and past its end `set` changes nothing.
+use mathlib.Core.Path.{_≡_, sym}
+use native.Mathlib.Omega.{arith}
+use lib.ListN.{length}
+use lib.Seq.{set-out}
+use Rattle.reach.proofs.Lists.{length-mapped}
+use borrow.Author.Needs.{needs}
+use Rattle.reach.proofs.successors.ruled_at.Statement.{statement}
+use Rattle.reach.proofs.successors.ruled_at.Tie as tie
+
+returns : tie.Need-returns
+returns c =
+    let a = c .before .args in
+    let long : length (a .t1) ≡ 64 = search (needs, length-mapped) in
+    sym (set-out (a .t1) (a .i) _ (omega (arith, long, c .if1 .taken)))
+
+mul-rules : tie.Need-mul-rules
+mul-rules c = search needs
+
+array-set-from-rules : tie.Need-array-set-from-rules
+array-set-from-rules c = search needs
+
+returns-2 : tie.Need-returns-2
+returns-2 c = search needs
+
+pub ruled-at-spec : {M : Type 1} → statement M
+ruled-at-spec = tie.close (tie.spec returns mul-rules array-set-from-rules returns-2)
