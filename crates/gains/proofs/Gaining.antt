@@ -34,10 +34,10 @@ use Rattle.rules.proofs.Giving.{gives-decides}
 use Rattle.rules.proofs.Fitting.{fits, may-appoint-decides}
 use Rattle.rules.proofs.Reading.{view-after}
 use Rattle.rules.proofs.Readings.{OwnAppointment, AppointGains, appoint-own-gain}
-use Rattle.gains.specs.declared.Gain.the-variants.{Permission, Nothing}
+use Rattle.rows.specs.declared.Gain.the-variants.{Permission, Nothing}
 use Rattle.rules.specs.Cleared.{Cleared, Authorised}
-use Rattle.gains.specs.Rows.{PermittedAt, Joined, FirstNew}
-use Rattle.gains.proofs.Surveyed.{NewAt, in-under, under-in, permitted-table, gain-new, no-gain-new}
+use Rattle.rows.specs.Rows.{PermittedAt, Joined, FirstNew}
+use Rattle.rows.proofs.Surveyed.{NewAt, in-under, under-in, permitted-table, gain-new, no-gain-new}
 
 or-false : {a b : Bool} → a ≡ false → b ≡ false → (a || b) ≡ false
 or-false e f = rw (e, f)

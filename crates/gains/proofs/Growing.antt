@@ -33,13 +33,14 @@ use Rattle.rules.specs.Refusals.{ownGain}
 use Rattle.rules.specs.Allowing.{Privilege, owning, managing, administering, permission, Has, Gives, Fits}
 use Rattle.rules.proofs.Giving.{gives-decides}
 use Rattle.rules.proofs.Reading.{view-after}
-use Rattle.gains.specs.declared.Gain.the-variants.{Permission, Nothing}
+use Rattle.rows.specs.declared.Gain.the-variants.{Permission, Nothing}
 use Rattle.rules.specs.Cleared.{Authorised}
 use Rattle.gains.specs.Giving.{NewHeld, NewPair, NewHolding, NewPermission}
-use Rattle.gains.specs.Rows.{In, AdministeredAt, PermittedAt, Joined, New, FirstNew, Grows, AnyGrows, AdminGrows, RuleGrows}
+use Rattle.rows.specs.Rows.{In, AdministeredAt, PermittedAt, Joined, New, FirstNew}
+use Rattle.gains.specs.Growth.{Grows, AnyGrows, AdminGrows, RuleGrows}
 use Rattle.gains.proofs.Gaining.{fits-of}
-use Rattle.gains.proofs.Surveyed.{NewAt, in-under, under-in, administered-table, permitted-table}
-use Rattle.gains.proofs.Surveyed.{decides-new-pair, gain-new, no-gain-new}
+use Rattle.rows.proofs.Surveyed.{NewAt, in-under, under-in, administered-table, permitted-table}
+use Rattle.rows.proofs.Surveyed.{decides-new-pair, gain-new, no-gain-new}
 
 module _ (p : Policy) (u x g : ℕ) (o : Authorised p u (Put x g)) {rows : List ℕ} (k : ClosureOf p rows) where
   abbrev n : Policy

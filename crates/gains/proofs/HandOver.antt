@@ -24,11 +24,12 @@ use Rattle.rules.specs.Doing.{after}
 use Rattle.rules.specs.Refusals.{handOver}
 use Rattle.rules.specs.Cleared.{Authorised}
 use Rattle.rules.specs.Allowing.{HandsOver, Fits}
-use Rattle.gains.specs.Rows.{HeldAt, HandedBy}
+use Rattle.rows.specs.Rows.{HeldAt}
+use Rattle.gains.specs.Growth.{HandedBy}
 use Rattle.rules.proofs.Giving.{hands-over-decides}
 use Rattle.rules.proofs.Reading.{view-after}
 use Rattle.gains.proofs.Gaining.{fits-of}
-use Rattle.gains.proofs.Surveyed.{in-under, under-in, held-is, is-held}
+use Rattle.rows.proofs.Surveyed.{in-under, under-in, held-is, is-held}
 
 module _ (p : Policy) (u x g : ℕ) (o : Authorised p u (Put x g)) {rows : List ℕ} (k : ClosureOf p rows) {users below free : ℕ}
     (m : SetOf users (User (view p))) (b : below ≡ getD rows x 0)

@@ -1,3 +1,3 @@
--- What checks 10 and 11 work out: rows and sets in words, and what a request would give.
-pub mod Rows
+-- What checks 10 and 11 work out: what grows in words, and what a request would give.
+pub mod Growth
 pub mod Giving

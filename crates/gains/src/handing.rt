@@ -8,13 +8,13 @@ ghost use Rattle.reach.specs.Surveys.{MasksOf, ClosureOf};
 ghost use Rattle.rules.specs.declared.Request.the-variants.{Put};
 ghost use Rattle.rules.specs.Refusals.{handOver};
 ghost use Rattle.rules.specs.Cleared.{Authorised};
-ghost use Rattle.gains.specs.Giving.{RowsFor};
-ghost use Rattle.gains.specs.Rows.{HandedBy};
-use crate::rows::held;
+ghost use Rattle.rows.specs.Closing.{RowsFor};
+ghost use Rattle.gains.specs.Growth.{HandedBy};
 use reach::Appointment;
 use reach::Masks;
 use reach::has;
 use reach::row;
+use rows::held;
 use rules::Request;
 
 // Whether the holder of this appointment, an owner's or a manager's, who has g by it, would come to hold some of the free objects that he

@@ -31,7 +31,6 @@ use forms::wrong_sort;
 use frame::byte;
 use gains::hand_over;
 use gains::own_gain;
-use gains::rows_for;
 pub use numbers::cited_of;
 pub use numbers::code_of;
 use reach::AccessRule;
@@ -41,6 +40,7 @@ use reach::Policy;
 use reach::appointment_at;
 use reach::masks_of;
 use reach::rule_at;
+use rows::rows_for;
 use rules::Answer;
 use rules::Verdict;
 

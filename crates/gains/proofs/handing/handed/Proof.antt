@@ -4,9 +4,9 @@ use Prim.Native.Nat.{ℕ, _-_, _≤_, _<_}
 use borrow.Author.Count.{below-more}
 use lib.ListN.{getD}
 use Rattle.reach.specs.Tables.{noAppointment}
-use Rattle.gains.specs.Rows.{HandedBy}
+use Rattle.gains.specs.Growth.{HandedBy}
 use Rattle.reach.proofs.Testing.{refuted}
-use Rattle.gains.proofs.News.{decides-yes, decides-no}
+use Rattle.rows.proofs.News.{decides-yes, decides-no}
 use borrow.Author.Needs.{needs}
 use Rattle.gains.proofs.handing.handed.Statement.{statement}
 use Rattle.gains.proofs.handing.handed.Tie as tie

@@ -4,7 +4,7 @@ use mir.Syntax.{w64}
 use mir.Val.{Fits}
 use Rattle.reach.proofs.Testing.{decides-as, decides-or, decides-eqb, refuted, some-map}
 use Rattle.reach.proofs.WordSets.{set-bits, set-mask, set-not, decides-nonempty, set-empty, set-outside, set-inside}
-use Rattle.gains.proofs.News.{bits-of, new-of, decides-no}
+use Rattle.rows.proofs.News.{bits-of, new-of, decides-no}
 use borrow.Author.Needs.{needs}
 use Rattle.gains.proofs.handing.handed_by.Statement.{statement}
 use Rattle.gains.proofs.handing.handed_by.Tie as tie

@@ -1,8 +1,8 @@
 -- The free objects are those under the object that the sender does not own. Where there are none there is nothing to hand over.
 use borrow.Author.Tests.{eqb-true}
 use Rattle.reach.proofs.WordSets.{set-mask, set-not, set-empty}
-use Rattle.gains.proofs.News.{decides-no}
-use Rattle.gains.proofs.Surveyed.{held-set}
+use Rattle.rows.proofs.News.{decides-no}
+use Rattle.rows.proofs.Surveyed.{held-set}
 use Rattle.gains.proofs.HandOver.{hand-over-is}
 use borrow.Author.Needs.{needs}
 use Rattle.gains.proofs.handing.put_hands_over.Statement.{statement}

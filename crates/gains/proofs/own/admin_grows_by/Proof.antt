@@ -1,6 +1,6 @@
 -- The test of its kind refutes what is asked, and else it is what is asked of an appointment of any kind.
 use Rattle.reach.proofs.Testing.{decides-as}
-use Rattle.gains.proofs.News.{decides-no}
+use Rattle.rows.proofs.News.{decides-no}
 use borrow.Author.Needs.{needs}
 use Rattle.gains.proofs.own.admin_grows_by.Statement.{statement}
 use Rattle.gains.proofs.own.admin_grows_by.Tie as tie

@@ -3,7 +3,7 @@ use native.Mathlib.Omega.{arith}
 use mathlib.Core.Logic.{inl, inr, ⊎-elim}
 use Rattle.reach.proofs.Testing.{decides-as, decides-at, decides-not}
 use Rattle.reach.proofs.WordSets.{decides-has}
-use Rattle.gains.proofs.News.{decides-no}
+use Rattle.rows.proofs.News.{decides-no}
 use Rattle.gains.proofs.Gaining.{appoint-gain}
 use borrow.Author.Needs.{needs}
 use Rattle.gains.proofs.own.appoint_gains.Statement.{statement}

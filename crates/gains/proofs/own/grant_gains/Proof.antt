@@ -1,7 +1,7 @@
 -- Who is not among the users gains nothing by GRANT. Of one who is, the first new permission is own gain, if there is one.
 use mathlib.Core.Path.{subst}
 use Rattle.reach.proofs.WordSets.{set-outside, set-inside}
-use Rattle.gains.specs.Rows.{FirstNew}
+use Rattle.rows.specs.Rows.{FirstNew}
 use Rattle.gains.proofs.Gaining.{grant-outside, grant-found, grant-none}
 use borrow.Author.Needs.{needs}
 use Rattle.gains.proofs.own.grant_gains.Statement.{statement}

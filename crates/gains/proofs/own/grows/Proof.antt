@@ -1,7 +1,7 @@
 -- Who lacks g gets nothing by it; who has it gets what is below and not his yet.
 use Rattle.reach.proofs.Testing.{decides-as}
 use Rattle.reach.proofs.WordSets.{set-bits, set-outside, set-inside, decides-nonempty}
-use Rattle.gains.proofs.News.{new-set, decides-no}
+use Rattle.rows.proofs.News.{new-set, decides-no}
 use borrow.Author.Needs.{needs}
 use Rattle.gains.proofs.own.grows.Statement.{statement}
 use Rattle.gains.proofs.own.grows.Tie as tie

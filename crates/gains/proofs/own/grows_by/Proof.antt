@@ -3,8 +3,8 @@ use mathlib.Core.Path.{subst}
 use Prim.Native.Nat.{ℕ}
 use Rattle.reach.specs.Tests.{Decides}
 use Rattle.reach.proofs.Testing.{decides-as, decides-or}
-use Rattle.gains.specs.Rows.{Grows}
-use Rattle.gains.proofs.News.{decides-no}
+use Rattle.gains.specs.Growth.{Grows}
+use Rattle.rows.proofs.News.{decides-no}
 use borrow.Author.Needs.{needs}
 use Rattle.gains.proofs.own.grows_by.Statement.{statement}
 use Rattle.gains.proofs.own.grows_by.Tie as tie

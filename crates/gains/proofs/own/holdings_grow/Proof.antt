@@ -3,8 +3,8 @@ use mathlib.Core.Logic.{inl, inr, ⊎-elim}
 use borrow.Author.Tests.{eqb-true, not-true}
 use Rattle.reach.specs.Privileges.{owner, manager}
 use Rattle.reach.proofs.Testing.{decides-as, refuted}
-use Rattle.gains.proofs.News.{decides-yes, decides-no}
-use Rattle.gains.proofs.Surveyed.{held-set}
+use Rattle.rows.proofs.News.{decides-yes, decides-no}
+use Rattle.rows.proofs.Surveyed.{held-set}
 use Rattle.gains.proofs.Growing.{no-holding, held-grows, held-stays}
 use borrow.Author.Needs.{needs}
 use Rattle.gains.proofs.own.holdings_grow.Statement.{statement}

@@ -4,7 +4,8 @@ use denote.Ref.{now}
 use Rattle.rules.specs.declared.Request.{Request}
 use Rattle.rules.specs.Refusals.{ownGain}
 use Rattle.rules.specs.Cleared.{Authorised}
-use Rattle.gains.specs.Giving.{RowsFor}
+use Rattle.rows.specs.Closing.{RowsFor}
+use Rattle.rows.proofs.Asked.{rows-of-put}
 use borrow.Author.Needs.{needs}
 use Rattle.gains.proofs.own.own_gain.Statement.{statement}
 use Rattle.gains.proofs.own.own_gain.Tie as tie
@@ -47,11 +48,10 @@ unfolding ownGain
 returns c p l w q s o = sym (ap (ownGain p (c .before .before .before .args .u)) (c .before .q .given .1))
 
 returns-2 : tie.Need-returns-2
-unfolding RowsFor
 returns-2 c p l w q s o =
     let a = c .before .before .before .before .args in
     let e = c .before .before .q2 .given .1 in
-    let k = subst (λ (r : Request). RowsFor p r (now (a .rows))) e w in
+    let k = rows-of-put p _ _ (subst (λ (r : Request). RowsFor p r (now (a .rows))) e w) in
     subst
     (λ (r : Request). c .put-gains .result ≡ ownGain p (a .u) r)
     (sym e)

@@ -1,7 +1,7 @@
 -- Without an appointment that grows there is no new pair, and else the pairs before and after tell.
 use borrow.Author.Tests.{not-true}
 use Rattle.reach.proofs.Testing.{refuted}
-use Rattle.gains.proofs.News.{decides-no}
+use Rattle.rows.proofs.News.{decides-no}
 use Rattle.gains.proofs.Growing.{no-pair, pairs-tell}
 use borrow.Author.Needs.{needs}
 use Rattle.gains.proofs.own.pairs_grow.Statement.{statement}

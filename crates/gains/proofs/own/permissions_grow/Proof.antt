@@ -4,8 +4,8 @@ use mathlib.Core.Path.{subst}
 use borrow.Author.Tests.{not-true}
 use Rattle.reach.proofs.Testing.{decides-at, decides-eqb, decides-and, decides-not, refuted}
 use Rattle.reach.proofs.WordSets.{has-decides}
-use Rattle.gains.specs.Rows.{FirstNew}
-use Rattle.gains.proofs.News.{decides-yes, decides-no}
+use Rattle.rows.specs.Rows.{FirstNew}
+use Rattle.rows.proofs.News.{decides-yes, decides-no}
 use Rattle.gains.proofs.Growing.{no-target, no-permission, permission-found, permission-none}
 use borrow.Author.Needs.{needs}
 use Rattle.gains.proofs.own.permissions_grow.Statement.{statement}

@@ -9,8 +9,9 @@ use Rattle.reach.specs.Words.{bit}
 use Rattle.reach.specs.Tests.{Decides}
 use Rattle.reach.proofs.Testing.{decides-as, decides-at, decides-and, refuted}
 use Rattle.reach.proofs.WordSets.{has-decides}
-use Rattle.gains.specs.Rows.{In, Grows}
-use Rattle.gains.proofs.News.{decides-no}
+use Rattle.rows.specs.Rows.{In}
+use Rattle.gains.specs.Growth.{Grows}
+use Rattle.rows.proofs.News.{decides-no}
 use borrow.Author.Needs.{needs}
 use Rattle.gains.proofs.own.rule_grows_by.Statement.{statement}
 use Rattle.gains.proofs.own.rule_grows_by.Tie as tie

@@ -1,0 +1,133 @@
+-- Number by number and row by row: nothing before the place of the search is new, and what is found there is.
+use Rattle.reach.proofs.WordSets.{decides-has, set-bits, set-below, below-next}
+use Rattle.reach.proofs.Testing.{decides-at, refuted}
+use mathlib.Core.Path.{subst, _≡_, refl, sym}
+use Rattle.rows.specs.Rows.{FirstNew, New}
+use native.Mathlib.Omega.{arith}
+use Prim.Native.Nat.{ℕ, _-_, _≤_, _<_}
+use lib.ListN.{getD}
+use mir.Syntax.{w64}
+use mir.Val.{Fits}
+use Rattle.rows.specs.declared.Gain.the-variants.{Nothing}
+use borrow.Author.Count.{below-more}
+use mathlib.Core.Logic.{⊎-elim}
+use Rattle.rows.proofs.News.{new-set}
+use borrow.Author.Needs.{needs}
+use Rattle.rows.proofs.first_gain.Statement.{statement}
+use Rattle.rows.proofs.first_gain.Tie as tie
+
+abbrev Inv-loop : tie.InvT-loop
+Inv-loop had got found₀ x k₀ found k = (k ≤ 8) × (found ≡ Nothing) × ((j : ℕ) → j < k → New (getD had j 0) (getD got j 0) x → ⊥)
+
+abbrev μ-loop : tie.MeasureT-loop
+μ-loop had got found₀ x k₀ found k = 8 - k
+
+abbrev Inv-search : tie.InvT-search
+Inv-search had got found₀ x₀ found x =
+    (x ≤ 64) × (found ≡ Nothing) × ((y : ℕ) → y < x → (j : ℕ) → j < 8 → New (getD had j 0) (getD got j 0) y → ⊥)
+
+abbrev μ-search : tie.MeasureT-search
+μ-search had got found₀ x₀ found x = 64 - x
+
+search-holds : tie.Need-search-holds Inv-loop μ-loop Inv-search μ-search
+search-holds c = (search needs, refl, λ y l. absurd (omega (arith, l)))
+
+loop-holds : tie.Need-loop-holds Inv-loop μ-loop Inv-search μ-search
+loop-holds c = (search needs, c .before .search .inv .1, λ j l. absurd (omega (arith, l)))
+
+cast-i : tie.Need-cast-i Inv-loop μ-loop Inv-search μ-search
+cast-i c = search needs
+
+mul-has : tie.Need-mul-has Inv-loop μ-loop Inv-search μ-search
+mul-has c = search needs
+
+array-read-has : tie.Need-array-read-has Inv-loop μ-loop Inv-search μ-search
+array-read-has c = search needs
+
+mul-has-2 : tie.Need-mul-has-2 Inv-loop μ-loop Inv-search μ-search
+mul-has-2 c = search needs
+
+array-read-has-2 : tie.Need-array-read-has-2 Inv-loop μ-loop Inv-search μ-search
+array-read-has-2 c = search needs
+
+has-requires : tie.Need-has-requires Inv-loop μ-loop Inv-search μ-search
+has-requires c κs = search needs
+
+add-k : tie.Need-add-k Inv-loop μ-loop Inv-search μ-search
+add-k c = search needs
+
+loop-less : tie.Need-loop-less Inv-loop μ-loop Inv-search μ-search
+loop-less c = search needs
+
+loop-again : tie.Need-loop-again Inv-loop μ-loop Inv-search μ-search
+loop-again c =
+    let a = c .before .before .before .before .before .before .args in
+    let h : Fits w64 (getD (a .t1) (c .before .before .before .loop .k) 0) = search needs in
+    let g : Fits w64 (getD (a .t2) (c .before .before .before .loop .k) 0) = search needs in (
+      search needs,
+      c .before .before .before .loop .inv .1,
+      below-more _ _ (c .before .before .before .loop .inv .2)
+          (λ n. refuted (decides-at (c .before .has .ensures) (decides-has (new-set _ _ (h .fits) (g .fits)) _)) (c .if1 .left) n),
+    )
+
+add-x : tie.Need-add-x Inv-loop μ-loop Inv-search μ-search
+add-x c = search needs
+
+search-less : tie.Need-search-less Inv-loop μ-loop Inv-search μ-search
+search-less c = search needs
+
+search-again : tie.Need-search-again Inv-loop μ-loop Inv-search μ-search
+search-again c = (
+  search needs,
+  c .before .loop .inv .1,
+  λ y l. ⊎-elim
+      (λ e j m n. c .before .loop .inv .2 j (omega (arith, m, c .loop-test .left)) (subst (New _ _) e n))
+      (λ h j m n. c .before .before .before .search .inv .2 y h j m n)
+      (below-next y (c .before .before .before .search .x) l),
+)
+
+returns : tie.Need-returns Inv-loop μ-loop Inv-search μ-search
+returns c =
+    let a = c .before .before .args in
+    subst
+    (FirstNew (a .t1) (a .t2))
+    (sym (c .before .search .inv .1))
+    (λ y j m n.
+    let g : Fits w64 (getD (a .t2) j 0) = search needs in
+    c .before .search .inv .2 y (omega (arith, set-below (set-bits _ (g .fits)) y (n .now), c .search-test .left)) j m n)
+
+returns-2 : tie.Need-returns-2 Inv-loop μ-loop Inv-search μ-search
+returns-2 c =
+    let a = c .before .before .before .before .before .before .args in
+    let h : Fits w64 (getD (a .t1) (c .before .before .before .loop .k) 0) = search needs in
+    let g : Fits w64 (getD (a .t2) (c .before .before .before .loop .k) 0) = search needs in (
+      search needs,
+      decides-at (c .before .has .ensures) (decides-has (new-set _ _ (h .fits) (g .fits)) _) .sound (c .if1 .taken),
+      λ y j l m n. c .before .before .before .before .before .search .inv .2 y l j m n,
+      λ j l n. c .before .before .before .loop .inv .2 j l n,
+    )
+
+pub first-gain-spec : {M : Type 1} → statement M
+first-gain-spec =
+    tie.close
+    (tie.spec
+    Inv-loop
+    μ-loop
+    Inv-search
+    μ-search
+    search-holds
+    loop-holds
+    cast-i
+    mul-has
+    array-read-has
+    mul-has-2
+    array-read-has-2
+    has-requires
+    add-k
+    loop-less
+    loop-again
+    add-x
+    search-less
+    search-again
+    returns
+    returns-2)

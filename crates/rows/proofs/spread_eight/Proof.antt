@@ -1,0 +1,76 @@
+-- Row by row: the rows below i are done, and the others are as they were.
+use mathlib.Core.Path.{_≡_}
+use Prim.Native.Nat.{_-_, _≤_}
+use lib.ListN.{length, getD}
+use mir.Syntax.{w64}
+use mir.Val.{Fits}
+use Rattle.rows.proofs.Spreading.{Spreading, spreading-start, spreading-next, spreading-end}
+use borrow.Author.Needs.{needs}
+use Rattle.rows.proofs.spread_eight.Statement.{statement}
+use Rattle.rows.proofs.spread_eight.Tie as tie
+
+abbrev Inv-loop : tie.InvT-loop
+Inv-loop which added rows₀ i₀ rows i = (i ≤ 8) × Spreading 8 rows₀ which added i rows
+
+abbrev μ-loop : tie.MeasureT-loop
+μ-loop which added rows₀ i₀ rows i = 8 - i
+
+loop-holds : tie.Need-loop-holds Inv-loop μ-loop
+loop-holds c =
+    let long : length (c .args .t1) ≡ 8 = search needs in
+    (search needs, spreading-start _ _ long (λ j. let fits : Fits w64 (getD (c .args .t1) j 0) = search needs in fits .fits))
+
+cast-n : tie.Need-cast-n Inv-loop μ-loop
+cast-n c = search needs
+
+mul-rows : tie.Need-mul-rows Inv-loop μ-loop
+mul-rows c = search needs
+
+array-read-rows : tie.Need-array-read-rows Inv-loop μ-loop
+array-read-rows c = search needs
+
+has-requires : tie.Need-has-requires Inv-loop μ-loop
+has-requires c κs = search needs
+
+only-if-requires : tie.Need-only-if-requires Inv-loop μ-loop
+only-if-requires c κs = search needs
+
+mul-rows-2 : tie.Need-mul-rows-2 Inv-loop μ-loop
+mul-rows-2 c = search needs
+
+array-write-rows : tie.Need-array-write-rows Inv-loop μ-loop
+array-write-rows c = search needs
+
+add-i : tie.Need-add-i Inv-loop μ-loop
+add-i c = search needs
+
+loop-less : tie.Need-loop-less Inv-loop μ-loop
+loop-less c = search needs
+
+loop-again : tie.Need-loop-again Inv-loop μ-loop
+loop-again c = (
+  search needs,
+  spreading-next (c .before .before .before .loop .inv .1) (search needs) _ (c .before .has .ensures) (c .only-if .ensures),
+)
+
+returns : tie.Need-returns Inv-loop μ-loop
+returns c = spreading-end (c .before .loop .inv .1) (c .loop-test .left)
+
+pub spread-eight-spec : {M : Type 1} → statement M
+spread-eight-spec =
+    tie.close
+    (tie.spec
+    Inv-loop
+    μ-loop
+    loop-holds
+    cast-n
+    mul-rows
+    array-read-rows
+    has-requires
+    only-if-requires
+    mul-rows-2
+    array-write-rows
+    add-i
+    loop-less
+    loop-again
+    returns)
