@@ -18,8 +18,9 @@ use Rattle.reach.proofs.AsRead.{ruled-sorts, ruled-members, ruled-appointments,
 use Rattle.rules.specs.declared.Request.{Request}
 use Rattle.rules.specs.declared.Request.the-variants.{Make, Put, Take, Appoint, Dismiss, Grant, Withdraw, Use}
 use Rattle.rules.specs.Doing.{after}
-use Rattle.judge.specs.Answering.{makes}
-use Rattle.judge.specs.ByTable.{sortsAfter, membersAfter, appointmentsAfter, rulesAfter}
+use Rattle.judge.specs.declared.Change.{Change}
+use Rattle.judge.specs.declared.Change.the-variants.{Objects, Members, Appointments, Rules, Nothing}
+use Rattle.judge.specs.ByTable.{sortsAfter, membersAfter, appointmentsAfter, rulesAfter, changeOf}
 
 pub sorts-after : (p : Policy) (q : Request) → after p q .sorts ≡ sortsAfter (p .sorts) q
 unfolding after
@@ -73,16 +74,30 @@ after-is p q e f g h =
     rw
     (e ∙ sym (sorts-after p q), f ∙ sym (members-after p q), g ∙ sym (appointments-after p q), h ∙ sym (rules-after p q))
 
--- But for MAKE every request leaves the sorts as they were, and with them the masks.
-sorts-stay : (l : List ℕ) (q : Request) → makes q ≡ false → sortsAfter l q ≡ l
-sorts-stay l (Make i s g) e = absurd (true≢false e)
-sorts-stay l (Put x g) e = refl
-sorts-stay l (Take x g) e = refl
-sorts-stay l (Appoint i k h a b) e = refl
-sorts-stay l (Dismiss i) e = refl
-sorts-stay l (Grant i u t o) e = refl
-sorts-stay l (Withdraw i) e = refl
-sorts-stay l (Use x k) e = refl
+-- The policy with the tables that a request changes, and the others as they were.
+abbrev pub changed : Policy → Change → List ℕ → List ℕ → List Appointment → List AccessRule → Policy
+changed p Objects s m a r = record { sorts = s; members = m; appointments = p .appointments; rules = p .rules }
+changed p Members s m a r = record { sorts = p .sorts; members = m; appointments = p .appointments; rules = p .rules }
+changed p Appointments s m a r = record { sorts = p .sorts; members = p .members; appointments = a; rules = p .rules }
+changed p Rules s m a r = record { sorts = p .sorts; members = p .members; appointments = p .appointments; rules = r }
+changed p Nothing s m a r = p
 
-pub masks-stay : (p : Policy) (q : Request) {m : Masks} → makes q ≡ false → MasksOf p m → MasksOf (after p q) m
-masks-stay p q e k = masks-same p (after p q) (sorts-after p q ∙ sorts-stay (p .sorts) q e) k
+-- It is the policy after, too.
+changed-all : (p : Policy) (q : Request)
+    → changed p (changeOf q) (sortsAfter (p .sorts) q) (membersAfter (p .members) q) (appointmentsAfter (p .appointments) q)
+    (rulesAfter (p .rules) q)
+    ≡ after p q
+changed-all p (Make i s g) = after-is p (Make i s g) refl refl refl refl
+changed-all p (Put x g) = after-is p (Put x g) refl refl refl refl
+changed-all p (Take x g) = after-is p (Take x g) refl refl refl refl
+changed-all p (Appoint i k h a b) = after-is p (Appoint i k h a b) refl refl refl refl
+changed-all p (Dismiss i) = after-is p (Dismiss i) refl refl refl refl
+changed-all p (Grant i u t o) = after-is p (Grant i u t o) refl refl refl refl
+changed-all p (Withdraw i) = after-is p (Withdraw i) refl refl refl refl
+changed-all p (Use x k) = after-is p (Use x k) refl refl refl refl
+
+pub changed-is : (p : Policy) (q : Request) (c : Change) {s m : List ℕ} {a : List Appointment} {r : List AccessRule}
+    → c ≡ changeOf q
+    → s ≡ sortsAfter (p .sorts) q → m ≡ membersAfter (p .members) q → a ≡ appointmentsAfter (p .appointments) q → r ≡ rulesAfter (p .rules) q
+    → changed p c s m a r ≡ after p q
+changed-is p q c d e f g h = rw (d, e, f, g, h) (changed-all p q)

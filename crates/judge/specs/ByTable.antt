@@ -9,6 +9,8 @@ use Rattle.reach.specs.Tables.{noAppointment, noRule}
 use Rattle.reach.specs.Successors.{sortedAs, madeIn, putInto, takenFrom}
 use Rattle.rules.specs.declared.Request.{Request}
 use Rattle.rules.specs.declared.Request.the-variants.{Make, Put, Take, Appoint, Dismiss, Grant, Withdraw, Use}
+use Rattle.judge.specs.declared.Change.{Change}
+use Rattle.judge.specs.declared.Change.the-variants.{Objects, Members, Appointments, Rules, Nothing}
 
 -- MAKE alone changes a sort.
 abbrev pub sortsAfter : List ℕ → Request → List ℕ
@@ -50,3 +52,14 @@ rulesAfter l (Dismiss i) = l
 rulesAfter l (Grant i u t o) = set l i (record { used = true; users = u; targets = t; operations = o })
 rulesAfter l (Withdraw i) = set l i noRule
 rulesAfter l (Use x k) = l
+
+-- Which of the tables it changes: MAKE the sorts and the members, any other request one or none.
+abbrev pub changeOf : Request → Change
+changeOf (Make i s g) = Objects
+changeOf (Put x g) = Members
+changeOf (Take x g) = Members
+changeOf (Appoint i k h a b) = Appointments
+changeOf (Dismiss i) = Appointments
+changeOf (Grant i u t o) = Rules
+changeOf (Withdraw i) = Rules
+changeOf (Use x k) = Nothing

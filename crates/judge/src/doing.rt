@@ -1,19 +1,15 @@
 // What an accepted request does.
 ghost use mathlib.Core.Path.{_≡_};
-ghost use Rattle.reach.specs.declared.Policy.{Policy};
-ghost use Rattle.reach.specs.Surveys.{MasksOf};
 ghost use Rattle.rules.specs.Doing.{after};
 ghost use Rattle.rules.specs.Judging.{doneBy};
-ghost use Rattle.judge.specs.Answering.{makes};
-ghost use Rattle.judge.specs.ByTable.{sortsAfter, membersAfter, appointmentsAfter, rulesAfter};
+ghost use Rattle.judge.specs.ByTable.{sortsAfter, membersAfter, appointmentsAfter, rulesAfter, changeOf};
+use crate::Change;
 use reach::AccessRule;
 use reach::Appointment;
-use reach::Masks;
 use reach::Place;
 use reach::Policy;
 use reach::appointed_at;
 use reach::made_in;
-use reach::masks_of;
 use reach::put_into;
 use reach::ruled_at;
 use reach::sorted_as;
@@ -139,30 +135,20 @@ pub fn after(p: Policy, q: Request) -> Policy
     }
 }
 
-// Whether a request makes an object.
-fn makes(q: Request) -> bool
-    ensures { λ r. ⌜ r ≡ makes q ⌝ }
+// What a request of this kind changes. The tables that are not named stay as they are, and need not be worked anew.
+pub fn change_of(q: Request) -> Change
+    ensures { λ r. ⌜ r ≡ changeOf q ⌝ }
 {
     match q {
-        Request::Make { .. } => true,
-        Request::Put { .. } => false,
-        Request::Take { .. } => false,
-        Request::Appoint { .. } => false,
-        Request::Dismiss { .. } => false,
-        Request::Grant { .. } => false,
-        Request::Withdraw { .. } => false,
-        Request::Use { .. } => false,
+        Request::Make { .. } => Change::Objects,
+        Request::Put { .. } => Change::Members,
+        Request::Take { .. } => Change::Members,
+        Request::Appoint { .. } => Change::Appointments,
+        Request::Dismiss { .. } => Change::Appointments,
+        Request::Grant { .. } => Change::Rules,
+        Request::Withdraw { .. } => Change::Rules,
+        Request::Use { .. } => Change::Nothing,
     }
-}
-
-// The masks of the policy after a request, from those before and the sorts after: but for MAKE they stay as they were.
-pub fn masks_after(m: Masks, sorts: [u8; 64], q: Request) -> Masks
-    ensures { λ r. ⌜ ((p : Policy) → MasksOf p m → after p q .sorts ≡ sorts → MasksOf (after p q) r) ⌝ }
-{
-    if makes(q) {
-        return masks_of(sorts);
-    }
-    m
 }
 
 // The verdict on an accepted request: a USE is done by the rule that permits it.

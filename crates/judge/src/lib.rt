@@ -13,8 +13,8 @@ use checks::orphan;
 use checks::permitting_rule;
 use doing::after;
 pub use doing::appointments_after;
+pub use doing::change_of;
 use doing::done;
-pub use doing::masks_after;
 pub use doing::members_after;
 pub use doing::rules_after;
 pub use doing::sorts_after;
@@ -43,6 +43,15 @@ use reach::rule_at;
 use rows::rows_for;
 use rules::Answer;
 use rules::Verdict;
+
+// What a request changes, were it accepted. MAKE changes two tables, the sorts and the members; any other request one or none.
+pub enum Change {
+    Objects,
+    Members,
+    Appointments,
+    Rules,
+    Nothing,
+}
 
 // A policy, and a verdict on it.
 fn answer(p: Policy, v: Verdict) -> Answer

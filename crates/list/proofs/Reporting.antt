@@ -15,8 +15,15 @@ use Rattle.frame.specs.declared.Step.the-variants.{Record, Torn, End}
 use Rattle.frame.specs.Reading.{stepAt, recordBytes, recordsFrom, tornFrom}
 use Rattle.frame.proofs.Steps.{Found, step-record, step-torn}
 use Rattle.frame.proofs.Records.{records-of-record, torn-of-record, records-of-torn, torn-of-torn, records-of-end, torn-of-end}
+use Rattle.reach.proofs.Sorts.{masks-same}
 use Rattle.rules.specs.declared.Verdict.{Verdict}
+use Rattle.rules.specs.declared.Answer.{Answer}
+use Rattle.rules.specs.declared.Request.{Request}
+use Rattle.rules.specs.Records.{request}
+use Rattle.rules.specs.Doing.{after}
 use Rattle.rules.specs.Judging.{codeOf, citedOf, verdict, judge, numbersOf, answers}
+use Rattle.rules.proofs.Reading.{sized-after}
+use Rattle.judge.proofs.Ordered.{judge-accepts, judge-refuses}
 use Rattle.rules.proofs.Table.{judge-verdict, answers-none, answers-next}
 use Rattle.text.specs.Text.{Bytes, line, lines, tornPlace, Wrote, Printed}
 use Rattle.list.specs.Report.{answersFrom, report, tooLong, output}
@@ -114,13 +121,38 @@ module _ (b out₀ : Bytes) where
 
 -- ---- What is known of the policy from record to record
 
--- Its masks, which are worked anew for MAKE alone, and that its tables have their sizes.
+-- Its masks, which are worked anew where the sorts have changed, and that its tables have their sizes.
 pub record Kept (p : Policy) (m : Masks) : Type 0 where
   pub masks : MasksOf p m
   pub sized : Sized p
 
-pub kept-as : {p p′ : Policy} {m m′ : Masks} → p′ ≡ p → m′ ≡ m → Kept p m → Kept p′ m′
-kept-as {p} {p′} {m} {m′} e f k = subst (λ (q : Policy). Kept q m′) (sym e) (subst (λ (n : Masks). Kept p n) (sym f) k)
+-- The policy after a record, and its masks.
+pub record Next (p : Policy) (b : Bytes) (n : Policy) (m : Masks) : Type 0 where
+  pub policy : n ≡ judge p b .policy
+  pub kept : Kept n m
+
+module _ (p : Policy) (b : Bytes) {v : Verdict} {code : ℕ} (e : v ≡ verdict p b) (f : code ≡ codeOf v) {m : Masks} (k : Kept p m) where
+  -- The record is refused: nothing has changed.
+  pub next-refused : {n : Policy} {o : Masks} → (code ≡ 0 → ⊥) → n ≡ p → o ≡ m → Next p b n o
+  next-refused {n} {o} z g h = record {
+    policy = g ∙ ap (λ (a : Answer). a .policy) (judge-refuses p b e f z);
+    kept = subst (λ (r : Policy). Kept r o) (sym g) (subst (Kept p) (sym h) k);
+  }
+
+  module _ (z : code ≡ 0) {q : Request} (h : q ≡ request b) {n : Policy} (g : n ≡ after p q) where
+    next-accepted : {o : Masks} → MasksOf n o → Next p b n o
+    next-accepted o = record {
+      policy = g ∙ ap (λ (a : Answer). a .policy) (judge-accepts p b e f z h);
+      kept = record { masks = o; sized = subst Sized (sym g) (sized-after p (k .sized) q) };
+    }
+
+    -- It is accepted, and the masks are those of the sorts after it.
+    pub next-made : {o : Masks} (w : Masks) → MasksOf n w → o ≡ w → Next p b n o
+    next-made w i j = next-accepted (subst (MasksOf n) (sym j) i)
+
+    -- It is accepted, and the sorts are those of before.
+    pub next-moved : {o : Masks} → n .sorts ≡ p .sorts → o ≡ m → Next p b n o
+    next-moved i j = next-accepted (subst (MasksOf n) (sym j) (masks-same p n i (k .masks)))
 
 -- ---- The limit on the input
 

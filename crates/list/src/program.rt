@@ -4,10 +4,11 @@ ghost use Rattle.list.specs.Report.{report, output};
 use forms::request_of;
 use frame::Step;
 use frame::read_at;
+use judge::Change;
 use judge::appointments_after;
+use judge::change_of;
 use judge::cited_of;
 use judge::code_of;
-use judge::masks_after;
 use judge::members_after;
 use judge::rules_after;
 use judge::sorts_after;
@@ -41,17 +42,31 @@ pub fn report(input: &[u8], out: &mut [u8]) -> usize
                 n = put_line(out, n, index, code, cited_of(v));
                 if code == 0 {
                     let q = request_of(&input[start..next]);
-                    let sorts = p.sorts;
-                    let made = sorts_after(sorts, q);
-                    p.sorts = made;
-                    let members = p.members;
-                    let moved = members_after(members, q);
-                    p.members = moved;
-                    let appointed = appointments_after(appointments, q);
-                    p.appointments = appointed;
-                    let ruled = rules_after(rules, q);
-                    p.rules = ruled;
-                    m = masks_after(m, made, q);
+                    match change_of(q) {
+                        Change::Objects => {
+                            let sorts = p.sorts;
+                            let made = sorts_after(sorts, q);
+                            p.sorts = made;
+                            let members = p.members;
+                            let moved = members_after(members, q);
+                            p.members = moved;
+                            m = masks_of(made);
+                        }
+                        Change::Members => {
+                            let members = p.members;
+                            let moved = members_after(members, q);
+                            p.members = moved;
+                        }
+                        Change::Appointments => {
+                            let appointed = appointments_after(appointments, q);
+                            p.appointments = appointed;
+                        }
+                        Change::Rules => {
+                            let ruled = rules_after(rules, q);
+                            p.rules = ruled;
+                        }
+                        Change::Nothing => {}
+                    }
                 }
                 at = next;
                 index = index + 1;

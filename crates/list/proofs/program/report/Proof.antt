@@ -1,7 +1,8 @@
 -- `report` prints the report: its loop keeps `Reporting`, each record adds its line, and a torn place or the end closes it.
 use mathlib.Core.Path.{_≡_, refl, sym, ap, _∙_}
 use mathlib.Core.Logic.{⊎-elim}
-use Prim.Native.Nat.{_-_, _<_, _^_}
+use mathlib.Core.List.{List}
+use Prim.Native.Nat.{ℕ, _-_, _<_, _^_}
 use native.Mathlib.Omega.{arith}
 use lib.ListN.{length}
 use denote.Ref.{now}
@@ -9,12 +10,11 @@ use Rattle.frame.specs.declared.Step.the-variants.{Record}
 use Rattle.frame.specs.Reading.{stepAt}
 use Rattle.frame.proofs.Steps.{Found, step-record}
 use Rattle.reach.proofs.AsRead.{sized-of-lengths}
-use Rattle.rules.specs.declared.Answer.{Answer}
-use Rattle.rules.proofs.Reading.{sized-after}
-use Rattle.judge.proofs.Ordered.{judge-accepts, judge-refuses}
-use Rattle.judge.proofs.Tabled.{sorts-after, after-is}
+use Rattle.reach.specs.declared.Policy.{Policy}
+use Rattle.judge.specs.declared.Change.the-variants.{Objects, Members, Appointments, Rules, Nothing}
+use Rattle.judge.proofs.Tabled.{changed-is}
 use Rattle.list.proofs.Reporting.{Reporting, reporting-start, reporting-record, reporting-torn, reporting-end}
-use Rattle.list.proofs.Reporting.{Kept, kept-as}
+use Rattle.list.proofs.Reporting.{Kept, Next, next-refused, next-made, next-moved}
 use borrow.Author.Needs.{needs}
 use Rattle.list.proofs.program.report.Statement.{statement}
 use Rattle.list.proofs.program.report.Tie as tie
@@ -24,6 +24,9 @@ Inv-loop input out₀ p₀ m₀ at₀ index₀ n₀ out p m at index n = Reporti
 
 abbrev μ-loop : tie.MeasureT-loop
 μ-loop input out₀ p₀ m₀ at₀ index₀ n₀ out p m at index n = length input - at
+
+abbrev sortsOf : Policy → List ℕ
+sortsOf p = p .sorts
 
 -- The record that the reader found, and what is known of it.
 record-at : (c : tie.After-known-told Inv-loop μ-loop)
@@ -89,20 +92,41 @@ part-request-of-end c = omega (arith, found (c .before .before .before .before .
 request-of-requires : tie.Need-request-of-requires Inv-loop μ-loop
 request-of-requires c κs = search needs
 
+change-of-requires : tie.Need-change-of-requires Inv-loop μ-loop
+change-of-requires c κs = search needs
+
+enum-told : tie.Need-enum-told Inv-loop μ-loop
+enum-told c = search needs
+
 sorts-after-requires : tie.Need-sorts-after-requires Inv-loop μ-loop
 sorts-after-requires c κs = search needs
 
 members-after-requires : tie.Need-members-after-requires Inv-loop μ-loop
 members-after-requires c κs = search needs
 
+masks-of-requires-2 : tie.Need-masks-of-requires-2 Inv-loop μ-loop
+masks-of-requires-2 c κs = search needs
+
+enum-told-2 : tie.Need-enum-told-2 Inv-loop μ-loop
+enum-told-2 c = search needs
+
+members-after-requires-2 : tie.Need-members-after-requires-2 Inv-loop μ-loop
+members-after-requires-2 c κs = search needs
+
+enum-told-3 : tie.Need-enum-told-3 Inv-loop μ-loop
+enum-told-3 c = search needs
+
 appointments-after-requires : tie.Need-appointments-after-requires Inv-loop μ-loop
 appointments-after-requires c κs = search needs
+
+enum-told-4 : tie.Need-enum-told-4 Inv-loop μ-loop
+enum-told-4 c = search needs
 
 rules-after-requires : tie.Need-rules-after-requires Inv-loop μ-loop
 rules-after-requires c κs = search needs
 
-masks-after-requires : tie.Need-masks-after-requires Inv-loop μ-loop
-masks-after-requires c κs = search needs
+enum-told-5 : tie.Need-enum-told-5 Inv-loop μ-loop
+enum-told-5 c = search needs
 
 add-index : tie.Need-add-index Inv-loop μ-loop
 add-index c =
@@ -121,28 +145,41 @@ loop-again c =
     let told = said .before .before .before .before .before .before in
     let inv = told .before .before .before .before .loop .inv in
     let v = said .verdict .ensures _ (record { rows = refl; masks = inv .1 .masks }) (inv .1 .sized) refl refl in
+    let next =
     ⊎-elim
     (λ w.
-    let p = w .10 ∙ after-is _ _ (w .4 .ensures) (w .6 .ensures) (w .7 .ensures) (w .8 .ensures) in (
-      reporting-record _ _ (inv .0) _ _ _ _ (record-at told) v
-          (p ∙ ap (λ (a : Answer). a .policy) (judge-accepts _ _ v (coded .code-of .ensures) (w .0 .taken) (w .2 .ensures)))
-          (coded .code-of .ensures) (cited .cited-of .ensures) (put .put-line .ensures),
-      kept-as p (w .11)
-          (record {
-            masks = w .9 .ensures _ (inv .1 .masks) (sorts-after _ _ ∙ sym (w .4 .ensures));
-            sized = sized-after _ (inv .1 .sized) _;
-          }),
-    ))
-    (λ w. (
-      reporting-record _ _ (inv .0) _ _ _ _ (record-at told) v
-          (w .1 ∙ ap (λ (a : Answer). a .policy) (judge-refuses _ _ v (coded .code-of .ensures) (w .0 .left)))
-          (coded .code-of .ensures) (cited .cited-of .ensures) (put .put-line .ensures),
-      kept-as (w .1) (w .2) (inv .1),
-    ))
-    (c .if1 .came)
+    next-made _ _ v (coded .code-of .ensures) (inv .1) (w .0 .taken) (w .2 .ensures)
+    (w .11 ∙ changed-is _ _ Objects (sym (w .5 .given .1) ∙ w .3 .ensures) (w .7 .ensures) (w .9 .ensures) refl refl)
+    _ (w .10 .ensures _ (ap sortsOf (w .11))) (w .12))
+    (⊎-elim
+    (λ w.
+    next-moved _ _ v (coded .code-of .ensures) (inv .1) (w .0 .taken) (w .2 .ensures)
+    (w .8 ∙ changed-is _ _ Members (sym (w .5 .given .1) ∙ w .3 .ensures) refl (w .7 .ensures) refl refl)
+    (ap sortsOf (w .8)) (w .9))
+    (⊎-elim
+    (λ w.
+    next-moved _ _ v (coded .code-of .ensures) (inv .1) (w .0 .taken) (w .2 .ensures)
+    (w .7 ∙ changed-is _ _ Appointments (sym (w .5 .given .1) ∙ w .3 .ensures) refl refl (w .6 .ensures) refl)
+    (ap sortsOf (w .7)) (w .8))
+    (⊎-elim
+    (λ w.
+    next-moved _ _ v (coded .code-of .ensures) (inv .1) (w .0 .taken) (w .2 .ensures)
+    (w .7 ∙ changed-is _ _ Rules (sym (w .5 .given .1) ∙ w .3 .ensures) refl refl refl (w .6 .ensures))
+    (ap sortsOf (w .7)) (w .8))
+    (⊎-elim
+    (λ w.
+    next-moved _ _ v (coded .code-of .ensures) (inv .1) (w .0 .taken) (w .2 .ensures)
+    (w .6 ∙ changed-is _ _ Nothing (sym (w .5 .given .1) ∙ w .3 .ensures) refl refl refl refl)
+    (ap sortsOf (w .6)) (w .7))
+    (λ w. next-refused _ _ v (coded .code-of .ensures) (inv .1) (w .0 .left) (w .1) (w .2))))))
+    (c .if1 .came) in (
+      reporting-record _ _ (inv .0) _ _ _ _ (record-at told) v (next .policy) (coded .code-of .ensures) (cited .cited-of .ensures)
+          (put .put-line .ensures),
+      next .kept,
+    )
 
-enum-told : tie.Need-enum-told Inv-loop μ-loop
-enum-told c = search needs
+enum-told-6 : tie.Need-enum-told-6 Inv-loop μ-loop
+enum-told-6 c = search needs
 
 put-line-requires-2 : tie.Need-put-line-requires-2 Inv-loop μ-loop
 put-line-requires-2 c κs = search needs
@@ -157,10 +194,10 @@ returns c =
     let put = c .before .before in
     let told = put .before .before in
     let read = told .before .before in
-    reporting-torn _ _ (read .before .loop .inv .0) (sym (read .read-at .ensures) ∙ told .enum-told .given .1) (put .put-line2 .ensures)
+    reporting-torn _ _ (read .before .loop .inv .0) (sym (read .read-at .ensures) ∙ told .enum-told6 .given .1) (put .put-line2 .ensures)
 
-enum-told-2 : tie.Need-enum-told-2 Inv-loop μ-loop
-enum-told-2 c = search needs
+enum-told-7 : tie.Need-enum-told-7 Inv-loop μ-loop
+enum-told-7 c = search needs
 
 same-length-2 : tie.Need-same-length-2 Inv-loop μ-loop
 same-length-2 c = c .before .before .before .loop .inv .0 .wrote .length-kept
@@ -168,7 +205,7 @@ same-length-2 c = c .before .before .before .loop .inv .0 .wrote .length-kept
 returns-2 : tie.Need-returns-2 Inv-loop μ-loop
 returns-2 c =
     let read = c .before .before in
-    reporting-end _ _ (read .before .loop .inv .0) (sym (read .read-at .ensures) ∙ c .enum-told2 .given .1)
+    reporting-end _ _ (read .before .loop .inv .0) (sym (read .read-at .ensures) ∙ c .enum-told7 .given .1)
 
 pub report-spec : {M : Type 1} → statement M
 report-spec =
@@ -192,18 +229,25 @@ report-spec =
     part-request-of-start
     part-request-of-end
     request-of-requires
+    change-of-requires
+    enum-told
     sorts-after-requires
     members-after-requires
+    masks-of-requires-2
+    enum-told-2
+    members-after-requires-2
+    enum-told-3
     appointments-after-requires
+    enum-told-4
     rules-after-requires
-    masks-after-requires
+    enum-told-5
     add-index
     loop-less
     loop-again
-    enum-told
+    enum-told-6
     put-line-requires-2
     same-length
     returns
-    enum-told-2
+    enum-told-7
     same-length-2
     returns-2)
