@@ -2,6 +2,7 @@
 // 64-bit sets (the crate `rows`).
 mod handing;
 mod own;
+mod putting;
 
 pub use handing::hand_over;
 pub use own::own_gain;

@@ -2,6 +2,7 @@
 // accepted change. Nothing here knows a byte of a request or a refusal's number.
 mod objects;
 mod privileges;
+mod questions;
 mod sets;
 mod successors;
 mod surveys;

@@ -7,8 +7,8 @@ use Rattle.rows.proofs.News.{decides-yes, decides-no}
 use Rattle.rows.proofs.Surveyed.{held-set}
 use Rattle.gains.proofs.Growing.{no-holding, held-grows, held-stays}
 use borrow.Author.Needs.{needs}
-use Rattle.gains.proofs.own.holdings_grow.Statement.{statement}
-use Rattle.gains.proofs.own.holdings_grow.Tie as tie
+use Rattle.gains.proofs.putting.holdings_grow.Statement.{statement}
+use Rattle.gains.proofs.putting.holdings_grow.Tie as tie
 
 row-requires : tie.Need-row-requires
 row-requires c κs = search needs

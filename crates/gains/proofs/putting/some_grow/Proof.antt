@@ -8,8 +8,8 @@ use Rattle.gains.specs.Growth.{AnyGrows}
 use Rattle.reach.proofs.Testing.{refuted}
 use Rattle.rows.proofs.News.{decides-yes, decides-no}
 use borrow.Author.Needs.{needs}
-use Rattle.gains.proofs.own.some_grow.Statement.{statement}
-use Rattle.gains.proofs.own.some_grow.Tie as tie
+use Rattle.gains.proofs.putting.some_grow.Statement.{statement}
+use Rattle.gains.proofs.putting.some_grow.Tie as tie
 
 abbrev Inv-loop : tie.InvT-loop
 Inv-loop rows u g below appointments i₀ i = (i ≤ 32) × ((j : ℕ) → j < i → AnyGrows (getD appointments j noAppointment) rows u g below → ⊥)

@@ -2,8 +2,8 @@
 use Rattle.reach.proofs.Testing.{refuted}
 use Rattle.gains.proofs.Growing.{holding-new, put-gain}
 use borrow.Author.Needs.{needs}
-use Rattle.gains.proofs.own.put_gains.Statement.{statement}
-use Rattle.gains.proofs.own.put_gains.Tie as tie
+use Rattle.gains.proofs.putting.put_gains.Statement.{statement}
+use Rattle.gains.proofs.putting.put_gains.Tie as tie
 
 holdings-grow-requires : tie.Need-holdings-grow-requires
 holdings-grow-requires c κs = search needs

@@ -8,8 +8,8 @@ use Rattle.gains.specs.Growth.{RuleGrows}
 use Rattle.reach.proofs.Testing.{refuted}
 use Rattle.rows.proofs.News.{decides-yes, decides-no}
 use borrow.Author.Needs.{needs}
-use Rattle.gains.proofs.own.rule_grows.Statement.{statement}
-use Rattle.gains.proofs.own.rule_grows.Tie as tie
+use Rattle.gains.proofs.putting.rule_grows.Statement.{statement}
+use Rattle.gains.proofs.putting.rule_grows.Tie as tie
 
 abbrev Inv-loop : tie.InvT-loop
 Inv-loop rows u g below rules i₀ i = (i ≤ 64) × ((j : ℕ) → j < i → RuleGrows (getD rules j noRule) rows u g below → ⊥)

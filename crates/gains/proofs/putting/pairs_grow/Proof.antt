@@ -4,8 +4,8 @@ use Rattle.reach.proofs.Testing.{refuted}
 use Rattle.rows.proofs.News.{decides-no}
 use Rattle.gains.proofs.Growing.{no-pair, pairs-tell}
 use borrow.Author.Needs.{needs}
-use Rattle.gains.proofs.own.pairs_grow.Statement.{statement}
-use Rattle.gains.proofs.own.pairs_grow.Tie as tie
+use Rattle.gains.proofs.putting.pairs_grow.Statement.{statement}
+use Rattle.gains.proofs.putting.pairs_grow.Tie as tie
 
 row-requires : tie.Need-row-requires
 row-requires c κs = search needs

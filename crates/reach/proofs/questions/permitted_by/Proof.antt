@@ -6,8 +6,8 @@ use Rattle.reach.specs.Words.{has}
 use Rattle.reach.proofs.Testing.{decides-eqb, refuted}
 use Rattle.reach.proofs.WordSets.{set-as, set-none, set-outside, set-inside}
 use borrow.Author.Needs.{needs}
-use Rattle.reach.proofs.privileges.permitted_by.Statement.{statement}
-use Rattle.reach.proofs.privileges.permitted_by.Tie as tie
+use Rattle.reach.proofs.questions.permitted_by.Statement.{statement}
+use Rattle.reach.proofs.questions.permitted_by.Tie as tie
 
 returns : tie.Need-returns
 returns c = λ p k. set-none (λ x h. true≢false (sym (h .0 .0) ∙ not-true _ (c .if1 .taken)))

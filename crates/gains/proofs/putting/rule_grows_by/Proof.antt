@@ -13,8 +13,8 @@ use Rattle.rows.specs.Rows.{In}
 use Rattle.gains.specs.Growth.{Grows}
 use Rattle.rows.proofs.News.{decides-no}
 use borrow.Author.Needs.{needs}
-use Rattle.gains.proofs.own.rule_grows_by.Statement.{statement}
-use Rattle.gains.proofs.own.rule_grows_by.Tie as tie
+use Rattle.gains.proofs.putting.rule_grows_by.Statement.{statement}
+use Rattle.gains.proofs.putting.rule_grows_by.Tie as tie
 
 returns : tie.Need-returns
 returns c = decides-no (λ h. true≢false (sym (h .used) ∙ not-true _ (c .if1 .taken)))

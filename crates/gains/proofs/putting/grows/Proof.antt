@@ -3,8 +3,8 @@ use Rattle.reach.proofs.Testing.{decides-as}
 use Rattle.reach.proofs.WordSets.{set-bits, set-outside, set-inside, decides-nonempty}
 use Rattle.rows.proofs.News.{new-set, decides-no}
 use borrow.Author.Needs.{needs}
-use Rattle.gains.proofs.own.grows.Statement.{statement}
-use Rattle.gains.proofs.own.grows.Tie as tie
+use Rattle.gains.proofs.putting.grows.Statement.{statement}
+use Rattle.gains.proofs.putting.grows.Tie as tie
 
 has-requires : tie.Need-has-requires
 has-requires c κs = search needs

@@ -2,8 +2,8 @@
 use Rattle.reach.proofs.Testing.{decides-as}
 use Rattle.rows.proofs.News.{decides-no}
 use borrow.Author.Needs.{needs}
-use Rattle.gains.proofs.own.admin_grows_by.Statement.{statement}
-use Rattle.gains.proofs.own.admin_grows_by.Tie as tie
+use Rattle.gains.proofs.putting.admin_grows_by.Statement.{statement}
+use Rattle.gains.proofs.putting.admin_grows_by.Tie as tie
 
 returns : tie.Need-returns
 returns c = decides-no (λ h. c .if1 .taken (h .0))

@@ -6,8 +6,8 @@ use Rattle.reach.proofs.Testing.{decides-as, decides-or}
 use Rattle.gains.specs.Growth.{Grows}
 use Rattle.rows.proofs.News.{decides-no}
 use borrow.Author.Needs.{needs}
-use Rattle.gains.proofs.own.grows_by.Statement.{statement}
-use Rattle.gains.proofs.own.grows_by.Tie as tie
+use Rattle.gains.proofs.putting.grows_by.Statement.{statement}
+use Rattle.gains.proofs.putting.grows_by.Tie as tie
 
 returns : tie.Need-returns
 returns c = decides-no (λ h. c .if1 .taken (h .is-holder))

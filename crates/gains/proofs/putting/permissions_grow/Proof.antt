@@ -8,8 +8,8 @@ use Rattle.rows.specs.Rows.{FirstNew}
 use Rattle.rows.proofs.News.{decides-yes, decides-no}
 use Rattle.gains.proofs.Growing.{no-target, no-permission, permission-found, permission-none}
 use borrow.Author.Needs.{needs}
-use Rattle.gains.proofs.own.permissions_grow.Statement.{statement}
-use Rattle.gains.proofs.own.permissions_grow.Tie as tie
+use Rattle.gains.proofs.putting.permissions_grow.Statement.{statement}
+use Rattle.gains.proofs.putting.permissions_grow.Tie as tie
 
 row-requires : tie.Need-row-requires
 row-requires c κs = search needs
