@@ -129,24 +129,34 @@ rows =
     MAKE 1 8 4 0 ∷
     MAKE 1 8 2 64 ∷
     PUT 1 64 9 ∷
+    PUT 1 3 64 ∷
+    TAKE 1 64 4 ∷
     TAKE 1 3 64 ∷
     APPOINT 1 3 0 3 4 0 ∷
     APPOINT 1 3 4 3 4 0 ∷
     APPOINT 1 3 2 3 4 5 ∷
     APPOINT 2 3 3 3 4 64 ∷
     APPOINT 1 3 2 64 4 0 ∷
+    APPOINT 1 3 2 3 64 0 ∷
     DISMISS 1 32 ∷
     GRANT 3 64 4 5 1 ∷
+    GRANT 3 1 64 5 1 ∷
+    GRANT 3 1 4 64 1 ∷
     GRANT 3 1 4 5 0 ∷
     WITHDRAW 3 64 ∷
+    USE 7 64 2 ∷
     USE 7 6 8 ∷
     -- Absent: MAKE into its own empty place; each empty object; each empty place; before a wrong sort.
     MAKE 1 8 1 8 ∷
     PUT 1 8 4 ∷
+    PUT 1 3 8 ∷
     TAKE 1 8 4 ∷
+    TAKE 1 3 8 ∷
     APPOINT 1 3 2 8 4 0 ∷
+    APPOINT 1 3 2 3 8 0 ∷
     APPOINT 2 3 3 3 4 8 ∷
     DISMISS 1 3 ∷
+    GRANT 3 1 8 5 1 ∷
     GRANT 3 1 6 8 1 ∷
     WITHDRAW 3 1 ∷
     USE 7 8 2 ∷
@@ -189,7 +199,8 @@ rows =
 
 abbrev pub rowsExpected : List (ℕ × ℕ)
 rowsExpected =
-    no 1 ∷ no 1 ∷ no 1 ∷ no 1 ∷ no 2 ∷ no 2 ∷ no 2 ∷ no 3 ∷ no 3 ∷ no 4 ∷ no 4 ∷ no 4 ∷ no 5 ∷ no 5 ∷ no 5 ∷ no 5 ∷ no 5 ∷ no 5 ∷
-    no 5 ∷ no 5 ∷ no 5 ∷ no 5 ∷ no 5 ∷ no 5 ∷ no 5 ∷ no 5 ∷ no 5 ∷ no 6 ∷ no 6 ∷ no 6 ∷ no 6 ∷ no 6 ∷ no 6 ∷ no 6 ∷ no 6 ∷ no 6 ∷
-    no 7 ∷ no 7 ∷ no 7 ∷ no 7 ∷ no 7 ∷ no 7 ∷ no 7 ∷ no 8 ∷ no 8 ∷ no 8 ∷ no 8 ∷ no 8 ∷ no 9 ∷ no 9 ∷ no 9 ∷ no 9 ∷ no 9 ∷ no 9 ∷
-    no 9 ∷ no 9 ∷ no 9 ∷ no 10 ∷ ok ∷ no 9 ∷ ok ∷ no 9 ∷ ok ∷ ok ∷ no 6 ∷ no 9 ∷ []
+    no 1 ∷ no 1 ∷ no 1 ∷ no 1 ∷ no 2 ∷ no 2 ∷ no 2 ∷ no 3 ∷ no 3 ∷ no 4 ∷ no 4 ∷ no 4 ∷ no 5 ∷ no 5 ∷ no 5 ∷ no 5 ∷ no 5 ∷
+    no 5 ∷ no 5 ∷ no 5 ∷ no 5 ∷ no 5 ∷ no 5 ∷ no 5 ∷ no 5 ∷ no 5 ∷ no 5 ∷ no 5 ∷ no 5 ∷ no 5 ∷ no 5 ∷ no 5 ∷ no 5 ∷ no 6 ∷
+    no 6 ∷ no 6 ∷ no 6 ∷ no 6 ∷ no 6 ∷ no 6 ∷ no 6 ∷ no 6 ∷ no 6 ∷ no 6 ∷ no 6 ∷ no 6 ∷ no 7 ∷ no 7 ∷ no 7 ∷ no 7 ∷ no 7 ∷
+    no 7 ∷ no 7 ∷ no 8 ∷ no 8 ∷ no 8 ∷ no 8 ∷ no 8 ∷ no 9 ∷ no 9 ∷ no 9 ∷ no 9 ∷ no 9 ∷ no 9 ∷ no 9 ∷ no 9 ∷ no 9 ∷ no 10 ∷ ok ∷
+    no 9 ∷ ok ∷ no 9 ∷ ok ∷ ok ∷ no 6 ∷ no 9 ∷ []
