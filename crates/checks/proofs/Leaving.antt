@@ -47,7 +47,8 @@ module _ (p : Policy) {q : Request} {i : ℕ} (e : q ≡ Dismiss i) where
         masks = masks-same p (after p q) (ap (λ (n : Request). after p n .sorts) e ∙ appointed-sorts p i noAppointment) (k .masks);
       }
 
-  pub appointments-dismissed : {l left : List Appointment} → p .appointments ≡ l → left ≡ set l i noAppointment → after p q .appointments ≡ left
+  pub appointments-dismissed : {l left : List Appointment} → p .appointments ≡ l → left ≡ set l i noAppointment
+      → after p q .appointments ≡ left
   unfolding after
   appointments-dismissed f l =
       ap (λ (n : Request). after p n .appointments) e ∙ appointed-appointments p i noAppointment

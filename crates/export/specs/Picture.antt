@@ -106,8 +106,8 @@ answerBytes a = pictureOf (a .policy) ++ (codeOf (a .verdict) ∷ citedOf (a .ve
 abbrev pub fitting : Bytes → Bytes → Bool
 fitting picture buffer = eqb (length picture) 960 && leb 962 (length buffer)
 
--- The buffer after the answer to a record, and the result. Bytes of the buffer past 962 stay as they were. Where the picture isn't 960 bytes
--- or the buffer is shorter than 962, nothing is written, and the result is 0.
+-- The buffer after the answer to a record, and the result. Bytes of the buffer past 962 stay as they were. Where the picture
+-- isn't 960 bytes or the buffer is shorter than 962, nothing is written, and the result is 0.
 pub record Judged (picture bytes buffer buffer′ : Bytes) (n : ℕ) : Type 0 where
   pub written : buffer′ ≡ (fitting picture buffer ⇒ answerBytes (judge (policyOf picture) bytes) ++ drop 962 buffer ∥ buffer)
   pub count : n ≡ (fitting picture buffer ⇒ 962 ∥ 0)

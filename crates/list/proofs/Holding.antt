@@ -29,7 +29,8 @@ module _ (start : Policy) (list : List Bytes) (sized : Sized start) where
   Did = Done start list
 
   -- What holds at lo, and what every allowed request but the one that undoes it keeps, holds at hi.
-  stays : (P : View → Type 0) (undo : Request) → ((v : View) (u : ℕ) (q : Request) → Allowed v u q → (q ≡ undo → ⊥) → P v → P (viewAfter v q))
+  stays : (P : View → Type 0) (undo : Request)
+      → ((v : View) (u : ℕ) (q : Request) → Allowed v u q → (q ≡ undo → ⊥) → P v → P (viewAfter v q))
       → (lo hi : ℕ) → lo ≤ hi → hi ≤ end start list → NotDone start list undo lo hi → P (Then lo) → P (Then hi)
   stays P undo keep lo zero l h n x = let e : lo ≡ 0 = omega arith in subst (λ (k : ℕ). P (Then k)) e x
   stays P undo keep lo (suc hi) l h n x =

@@ -49,7 +49,8 @@ report-fits input h = go (tornFrom input 0) (records-few input 0 zero-le)
         → length (lines 0 (answers initial records ++ (torn ⇒ tornPlace ∷ [] ∥ []))) ≤ 212992
     go true few = torn-lines-fit (answers initial records) (answers-bounded initial records) (omega (arith, answers-length initial records))
     go false few =
-        rw append-nil (lines-fit (answers initial records) (answers-bounded initial records) (omega (arith, answers-length initial records)))
+        rw append-nil
+        (lines-fit (answers initial records) (answers-bounded initial records) (omega (arith, answers-length initial records)))
 
 -- What the program prints fits into its buffer, whatever its input.
 pub output-fits : (input : Bytes) → length (output input) ≤ 212992

@@ -33,8 +33,8 @@ over-next bytes buffer byte low =
     ∙ simp (append-assoc, length-append, add-one)
 
 -- The same of the buffer that the loop fills.
-filled-next : {buffer : Bytes} (bytes buffer₀ : Bytes) (byte : ℕ) {i : ℕ} → buffer ≡ over bytes buffer₀ → length bytes ≡ i → i < length buffer₀
-    → set buffer i byte ≡ over (bytes ++ (byte ∷ [])) buffer₀
+filled-next : {buffer : Bytes} (bytes buffer₀ : Bytes) (byte : ℕ) {i : ℕ} → buffer ≡ over bytes buffer₀ → length bytes ≡ i
+    → i < length buffer₀ → set buffer i byte ≡ over (bytes ++ (byte ∷ [])) buffer₀
 filled-next bytes buffer₀ byte e count low = rw (e, sym count) (over-next bytes buffer₀ byte (omega arith))
 
 -- A buffer keeps its length.
@@ -72,12 +72,14 @@ module _ (b ends codes₀ cited₀ : Bytes) (first : Policy) where
   pub running-codes : {codes cited : Bytes} {p : Policy} {start i : ℕ} → Running codes cited p start i → length codes ≡ length codes₀
   running-codes s =
       ap length (s .codes-filled)
-      ∙ over-length (codesOf (s .so-far)) codes₀ (omega (arith, length-map (s .so-far) (λ (w : ℕ × ℕ). w .0), s .count, s .within, s .codes-room))
+      ∙ over-length (codesOf (s .so-far)) codes₀
+      (omega (arith, length-map (s .so-far) (λ (w : ℕ × ℕ). w .0), s .count, s .within, s .codes-room))
 
   pub running-cited : {codes cited : Bytes} {p : Policy} {start i : ℕ} → Running codes cited p start i → length cited ≡ length cited₀
   running-cited s =
       ap length (s .cited-filled)
-      ∙ over-length (citesOf (s .so-far)) cited₀ (omega (arith, length-map (s .so-far) (λ (w : ℕ × ℕ). w .1), s .count, s .within, s .cited-room))
+      ∙ over-length (citesOf (s .so-far)) cited₀
+      (omega (arith, length-map (s .so-far) (λ (w : ℕ × ℕ). w .1), s .count, s .within, s .cited-room))
 
   pub running-end : {codes cited : Bytes} {p : Policy} {start i : ℕ} → Running codes cited p start i → length ends ≤ i
       → RunInto first (handed b ends) codes₀ cited₀ codes cited (record { ran = true; policy = p })
@@ -91,7 +93,11 @@ module _ (b ends codes₀ cited₀ : Bytes) (first : Policy) where
       ∙ ap (λ (l : Bytes). s .so-far ++ answers p (parts b start l)) (sym none)
       ∙ s .answers-to-come in
       let fits : room (handed b ends) codes₀ cited₀ ≡ true =
-      rw (parts-length b 0 ends, le-leb (length ends) (length codes₀) (s .codes-room), le-leb (length ends) (length cited₀) (s .cited-room)) in
+      rw (
+        parts-length b 0 ends,
+        le-leb (length ends) (length codes₀) (s .codes-room),
+        le-leb (length ends) (length cited₀) (s .cited-room),
+      ) in
       record {
         outcome = rw (fits, sym last);
         codes-written = rw (fits, sym all, s .codes-filled);
@@ -113,15 +119,18 @@ module _ (b ends codes₀ cited₀ : Bytes) (first : Policy) where
           so-far = s .so-far ++ ((code, cite) ∷ []);
           count = simp (length-append, s .count);
           codes-filled =
-              filled-next (codesOf (s .so-far)) codes₀ code (s .codes-filled) (length-map (s .so-far) _ ∙ s .count) (omega (arith, s .codes-room))
+              filled-next (codesOf (s .so-far)) codes₀ code (s .codes-filled) (length-map (s .so-far) _ ∙ s .count)
+              (omega (arith, s .codes-room))
               ∙ ap (λ (l : Bytes). over l codes₀) (sym (map-append _ (s .so-far) ((code, cite) ∷ [])));
           cited-filled =
-              filled-next (citesOf (s .so-far)) cited₀ cite (s .cited-filled) (length-map (s .so-far) _ ∙ s .count) (omega (arith, s .cited-room))
+              filled-next (citesOf (s .so-far)) cited₀ cite (s .cited-filled) (length-map (s .so-far) _ ∙ s .count)
+              (omega (arith, s .cited-room))
               ∙ ap (λ (l : Bytes). over l cited₀) (sym (map-append _ (s .so-far) ((code, cite) ∷ [])));
           policy-to-come = rw (add-one, e) (ap (run p) (sym to-come) ∙ s .policy-to-come);
           answers-to-come =
               rw (add-one, f, g, e, append-assoc)
-              (ap (λ (l : List (ℕ × ℕ)). s .so-far ++ l) (sym (answers-next p (part b start (getD ends i 0)) (parts b (getD ends i 0) (drop (suc i) ends))))
+              (ap (λ (l : List (ℕ × ℕ)). s .so-far ++ l)
+              (sym (answers-next p (part b start (getD ends i 0)) (parts b (getD ends i 0) (drop (suc i) ends))))
               ∙ ap (λ (l : List Bytes). s .so-far ++ answers p l) (sym to-come)
               ∙ s .answers-to-come);
         }

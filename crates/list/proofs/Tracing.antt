@@ -138,7 +138,8 @@ module _ (start : Policy) (list : List Bytes) (sized : Sized start) where
           from (DirectFrom.stood z n) = later-membership (l z) (not-done e n)
           from (DirectFrom.by-make s z) =
               let ok′ : Allowed (Then i) u (Make x s g) = subst (Allowed (Then i) u) z ok in
-              MembershipLine.by-make i u s (le-refl (suc i)) (subst (Did i u) z e) (none-since (Take x g) i) (governs-line ls (ok′ .authority))
+              MembershipLine.by-make i u s (le-refl (suc i)) (subst (Did i u) z e) (none-since (Take x g) i)
+              (governs-line ls (ok′ .authority))
           from (DirectFrom.by-put z) =
               let ok′ : Allowed (Then i) u (Put x g) = subst (Allowed (Then i) u) z ok in
               MembershipLine.by-put
@@ -170,7 +171,8 @@ module _ (start : Policy) (list : List Bytes) (sized : Sized start) where
       used : {a b : AccessRule} → a ≡ b → b .used ≡ true → a .used ≡ true
       used e u = ap (λ (r : AccessRule). r .used) e ∙ u
 
-      go : Next start list sized i → (Then i .rule p .used ≡ true → RuleLine start list i p (Then i .rule p)) → RuleLine start list (suc i) p t
+      go : Next start list sized i → (Then i .rule p .used ≡ true → RuleLine start list i p (Then i .rule p))
+          → RuleLine start list (suc i) p t
       go (turned-away n e) l =
           let q : Then i .rule p ≡ t = ap (λ (v : View). v .rule p) (sym e) in
           subst (RuleLine start list (suc i) p) q (later-rule (l (used q s)) (λ u. n u (Withdraw p)))

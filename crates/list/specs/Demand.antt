@@ -1,4 +1,5 @@
--- [00:demand.3] Demand 3, each part under its words. That lines are tight, so that what has a line stands, is proved beside it (proofs/Holding).
+-- [00:demand.3] Demand 3, each part under its words. That lines are tight, so that what has a line stands, is proved beside
+-- it (proofs/Holding).
 -- [01:line.9] "Demand 3 is one claim about the whole list, its four parts together, and not a claim for each kind of request."
 use mathlib.Core.Path.{_≡_}
 use mathlib.Core.Bool.{true}

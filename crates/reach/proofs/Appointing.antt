@@ -22,7 +22,11 @@ pub holds-appointed : (v : View) (i : ℕ) (w : Appointment) {kind u x : ℕ} �
     → Holds v kind u x ⊎ (((w .kind ≡ kind) × (w .holder ≡ u)) × Under v x (w .a))
 holds-appointed v i w {kind} {u} {x} h =
     ⊎-elim
-    (λ e. inr ((at (λ a. a .kind) (e .1) ∙ b .is-kind, at (λ a. a .holder) (e .1) ∙ b .is-holder), subst (λ (a : Appointment). Under v x (a .a)) (e .1) c))
+    (λ e.
+    inr (
+      (at (λ a. a .kind) (e .1) ∙ b .is-kind, at (λ a. a .holder) (e .1) ∙ b .is-holder),
+      subst (λ (a : Appointment). Under v x (a .a)) (e .1) c,
+    ))
     (λ e.
     inl
     (record {

@@ -68,7 +68,9 @@ unfolding permitsBy has
 decides-permits-by p u k x i =
     decides-as
     (decides-and _ _
-    (decides-and _ _ (decides-and _ _ (decides-true (rule p i .used)) (decides-eqb (bit (rule p i .operations) k) 1)) (under-decides p u (rule p i .users)))
+    (decides-and _ _
+    (decides-and _ _ (decides-true (rule p i .used)) (decides-eqb (bit (rule p i .operations) k) 1))
+    (under-decides p u (rule p i .users)))
     (under-decides p x (rule p i .targets)))
     (λ w. record { used = w .0 .0 .0; operation = w .0 .0 .1; covers-user = w .0 .1; covers-target = w .1 })
     (λ h. (((h .used, h .operation), h .covers-user), h .covers-target))

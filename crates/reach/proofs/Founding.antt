@@ -76,7 +76,12 @@ pub initial-owns : (x : ℕ) → InUse (view initial) x → Owns (view initial) 
 initial-owns x i =
     record {
       user = initial-user;
-      by = record { place = 0; low = omega arith; at = record { is-kind = held .0; is-holder = held .1; covers = under (initial-in-use x i) } };
+      by =
+          record {
+            place = 0;
+            low = omega arith;
+            at = record { is-kind = held .0; is-holder = held .1; covers = under (initial-in-use x i) };
+          };
     }
   where
     held : (view initial .appointment 0 .kind ≡ owner) × (view initial .appointment 0 .holder ≡ 1)

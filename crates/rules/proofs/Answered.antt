@@ -21,7 +21,10 @@ use Rattle.rules.specs.Sample.{records, expected, further, furtherExpect
 
 -- The answers with every rule open: what is to compute opens this one.
 unfoldable pub computed : Policy → List (List ℕ) → List (ℕ × ℕ)
-unfolding bit has some lowestOr counted sort stored appointment standing rule inUse direct chain under holdsBy holds administersBy administers permitsBy askable permitted permitting orphaned withBit withoutBit made put taken appointed ruled initial lengthOf request mayAppoint may after gives handsOver torn unknown misfit stranger offTheSheet absent wrongSort alreadySo noAuthority ownGain handOver orphan codeOf citedOf done verdictOn verdict judge answers
+unfolding bit has some lowestOr counted sort stored appointment standing rule inUse direct chain under holdsBy holds
+    administersBy administers permitsBy askable permitted permitting orphaned withBit withoutBit made put taken appointed ruled
+    initial lengthOf request mayAppoint may after gives handsOver torn unknown misfit stranger offTheSheet absent wrongSort
+    alreadySo noAuthority ownGain handOver orphan codeOf citedOf done verdictOn verdict judge answers
 computed p bs = answers p bs
 
 -- [01:runner.13] [01:runner.14] The sixteen lines of the sample.

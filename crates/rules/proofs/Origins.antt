@@ -24,7 +24,8 @@ clash e = omega arith
 abbrev pub AppointmentFrom : View → Request → ℕ → Appointment → Type 0
 AppointmentFrom v q i w = ((v .appointment i ≡ w) × (q ≡ Dismiss i → ⊥)) ⊎ (q ≡ appointing i w)
 
-pub appointment-from : (v : View) (q : Request) (i : ℕ) (w : Appointment) → viewAfter v q .appointment i ≡ w → Standing w → AppointmentFrom v q i w
+pub appointment-from : (v : View) (q : Request) (i : ℕ) (w : Appointment) → viewAfter v q .appointment i ≡ w → Standing w
+    → AppointmentFrom v q i w
 appointment-from v (Make j s g) i w e s′ = inl (e, λ z. clash (cc))
 appointment-from v (Put x g) i w e s = inl (e, λ z. clash (cc))
 appointment-from v (Take x g) i w e s = inl (e, λ z. clash (cc))
@@ -88,7 +89,8 @@ direct-from v (Put i h) x g d = ⊎-elim (λ e. by-put (is (e .0) (e .1))) (λ o
     is : x ≡ i → g ≡ h → Put i h ≡ Put x g
     is p q = cc
 direct-from v (Take i h) x g d = let w = taken-direct v i h d in stood (w .0) (λ z. w .1 (cc, cc))
-direct-from v (Appoint i k h a b) x g d = stood (direct-same (viewAfter v (Appoint i k h a b)) v (λ y. refl) (λ y z. refl) d) (λ z. clash (cc))
+direct-from v (Appoint i k h a b) x g d =
+    stood (direct-same (viewAfter v (Appoint i k h a b)) v (λ y. refl) (λ y z. refl) d) (λ z. clash (cc))
 direct-from v (Dismiss i) x g d = stood (direct-same (viewAfter v (Dismiss i)) v (λ y. refl) (λ y z. refl) d) (λ z. clash (cc))
 direct-from v (Grant i u t o) x g d = stood (direct-same (viewAfter v (Grant i u t o)) v (λ y. refl) (λ y z. refl) d) (λ z. clash (cc))
 direct-from v (Withdraw i) x g d = stood (direct-same (viewAfter v (Withdraw i)) v (λ y. refl) (λ y z. refl) d) (λ z. clash (cc))

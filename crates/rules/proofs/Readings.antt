@@ -152,7 +152,12 @@ hand-over-not-owned v u x g h o = ⊎-elim (λ z. go (z .0) (z .1)) (λ z. go (z
         n
         (record {
           user = a .user;
-          by = record { place = a .by .place; low = a .by .low; at = record { is-kind = b .is-kind; is-holder = b .is-holder; covers = l } };
+          by =
+              record {
+                place = a .by .place;
+                low = a .by .low;
+                at = record { is-kind = b .is-kind; is-holder = b .is-holder; covers = l };
+              };
         }))
         (λ l. h .not-own (holds-under (l .0) o))
         (put-adds-only v x g (b .covers))

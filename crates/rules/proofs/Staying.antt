@@ -78,12 +78,14 @@ granting-grants v u p r c ok =
     (written-cases (record { used = true; users = r .users; targets = r .targets; operations = r .operations }) (v .rule p) p p)
     ∙ marked r c
   where
-    marked : (r : AccessRule) → r .used ≡ true → record { used = true; users = r .users; targets = r .targets; operations = r .operations } ≡ r
+    marked : (r : AccessRule) → r .used ≡ true
+        → record { used = true; users = r .users; targets = r .targets; operations = r .operations } ≡ r
     marked r c = ap (λ b. record { used = b; users = r .users; targets = r .targets; operations = r .operations }) (sym c)
 
 -- ---- Memberships
 
-pub direct-stays : (v : View) (u : ℕ) (q : Request) (x g : ℕ) → Allowed v u q → (q ≡ Take x g → ⊥) → Direct v x g → Direct (viewAfter v q) x g
+pub direct-stays : (v : View) (u : ℕ) (q : Request) (x g : ℕ) → Allowed v u q → (q ≡ Take x g → ⊥) → Direct v x g
+    → Direct (viewAfter v q) x g
 direct-stays v u (Make i s h) x g ok n d = direct-made v i s h (λ j. omega (arith, j, ok .fits .3)) d
 direct-stays v u (Put i h) x g ok n d = direct-put v i h d
 direct-stays v u (Take i h) x g ok n d = direct-taken v i h (λ e. n (is (e .0) (e .1))) d

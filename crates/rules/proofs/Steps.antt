@@ -147,7 +147,8 @@ nobody-comes {v} {n} c hs {u} {x} m = ⊎-elim (λ g. g .1 (had owner-stands (g 
         holds-carried c (subst (User v) holder (hs (h .by .place) (subst Standing e s))) k (m .there) h
 
 -- Who may appoint an owner or manager owns what is under its A.
-sender-owns : {v : View} {u : ℕ} {w : Appointment} {x : ℕ} → (w .kind ≡ administrator → ⊥) → MayAppoint v u w → Under v x (w .a) → Owns v u x
+sender-owns : {v : View} {u : ℕ} {w : Appointment} {x : ℕ} → (w .kind ≡ administrator → ⊥) → MayAppoint v u w → Under v x (w .a)
+    → Owns v u x
 sender-owns n (as-owner m o) l =
     record {
       user = o .user;

@@ -36,7 +36,8 @@ pub record Passed (p : Policy) (b : List ℕ) (u : ℕ) (q : Request) : Type 0 w
   pub no-orphan : orphan p q ≡ false
 
 -- One row of the table.
-row : {P : Type 0} (t : Bool) (r v : Verdict) → accepted r ≡ false → Decides (accepted v) P → Decides (accepted (t ⇒ r ∥ v)) ((t ≡ false) × P)
+row : {P : Type 0} (t : Bool) (r v : Verdict) → accepted r ≡ false → Decides (accepted v) P
+    → Decides (accepted (t ⇒ r ∥ v)) ((t ≡ false) × P)
 row true r v e d = record { sound = λ a. absurd (true≢false (sym a ∙ e)); complete = λ w. absurd (true≢false (w .0)) }
 row false r v e d = record { sound = λ a. (refl, d .sound a); complete = λ w. d .complete (w .1) }
 

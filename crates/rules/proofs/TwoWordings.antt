@@ -30,7 +30,8 @@ module _ (p : Policy) (z : Sized p) (u : ℕ) where
   Unclean q = ownGain p u q || handOver p u q || orphan p q
 
   no-gain : (q : Request) (n : View) → view (after p q) ≡ n → Passes (gives p (after p q) u) (Gives (view p) n u → ⊥)
-  no-gain q n e = subst (λ (w : View). Passes (gives p (after p q) u) (Gives (view p) w u → ⊥)) e (passes-of _ (gives-decides p (after p q) u))
+  no-gain q n e =
+      subst (λ (w : View). Passes (gives p (after p q) u) (Gives (view p) w u → ⊥)) e (passes-of _ (gives-decides p (after p q) u))
 
   no-hand : (q : Request) (n : View) → view (after p q) ≡ n → Passes (handsOver p (after p q) u) (HandsOver (view p) n u → ⊥)
   no-hand q n e =
@@ -105,7 +106,8 @@ module _ (p : Policy) (z : Sized p) (b : List ℕ) where
       let s = or-parts (offTheSheet asked || absent p asked || wrongSort p asked) (alreadySo p asked) (fits p asked .complete (a .fits)) in
       let s′ = or-parts (offTheSheet asked || absent p asked) (wrongSort p asked) (s .0) in
       let s″ = or-parts (offTheSheet asked) (absent p asked) (s′ .0) in
-      let t = or-parts (ownGain p from asked || handOver p from asked) (orphan p asked) (clean p z from asked (a .fits) .complete (a .clean)) in
+      let t =
+      or-parts (ownGain p from asked || handOver p from asked) (orphan p asked) (clean p z from asked (a .fits) .complete (a .clean)) in
       let t′ = or-parts (ownGain p from asked) (handOver p from asked) (t .0) in
       record {
         not-torn = r′ .0;

@@ -24,7 +24,8 @@ sized : (c : tie.Start) → Sized (c .args .t1)
 sized c = search (needs, sized-of-lengths)
 
 judged : (c : tie.After-verdict)
-    → let s = c .before .before .before .before .before .before .before .before in c .verdict .result ≡ verdict (s .args .t1) (now (s .args .bytes))
+    → let s = c .before .before .before .before .before .before .before .before in
+    c .verdict .result ≡ verdict (s .args .t1) (now (s .args .bytes))
 judged c =
     let s = c .before .before .before .before .before .before .before .before in
     c .verdict .ensures (s .args .t1) (record { rows = refl; masks = c .before .before .before .before .before .masks-of .ensures _ refl })
@@ -36,7 +37,8 @@ returns c =
     both _ _
     (c .answer .ensures
     ∙ ap (λ (n : Policy). answered n (d .before .verdict .result)) (c .before .after .ensures)
-    ∙ judge-accepts _ _ (judged (d .before)) (d .code-of .ensures) (c .before .before .before .if1 .taken) (c .before .before .request-of .ensures))
+    ∙ judge-accepts _ _ (judged (d .before)) (d .code-of .ensures) (c .before .before .before .if1 .taken)
+    (c .before .before .request-of .ensures))
 
 returns-2 : tie.Need-returns-2
 returns-2 c =

@@ -215,7 +215,8 @@ returns-3 c =
 
 -- ---- Check 4
 
-fact-4 : (c : tie.After-stranger) (p : Policy) → Given (start-3 (c .before .before)) p → stranger p (c .before .byte .result) ≡ c .stranger .result
+fact-4 : (c : tie.After-stranger) (p : Policy) → Given (start-3 (c .before .before)) p
+    → stranger p (c .before .byte .result) ≡ c .stranger .result
 fact-4 c p g = sym (c .stranger .ensures p (g .lent .masks))
 
 passed-4 : (c : tie.Else4) (p : Policy) → Given (start-4 c) p → (q : Request) → Passed p (now (start-4 c .args .bytes)) (sender-of c) q 4
@@ -360,7 +361,9 @@ fact-10 : (c : tie.After-own-gain) (p : Policy)
     Given (start-9 d) p → ownGain p (sender-of (four-9 d)) (request-of (five-9 d)) ≡ c .own-gain .result
 fact-10 c p g =
     let d = c .before .before .before in
-    sym (c .own-gain .ensures p (g .lent) (c .before .before .rows-for .ensures p (g .lent)) (g .appointments) (g .rules) (authorised d p g))
+    sym
+    (c .own-gain .ensures p (g .lent) (c .before .before .rows-for .ensures p (g .lent)) (g .appointments) (g .rules)
+    (authorised d p g))
 
 passed-10 : (c : tie.Else10) (p : Policy) → Given (start-10 c) p
     → Passed p (now (start-10 c .args .bytes)) (sender-of (four-10 c)) (request-of (five-10 c)) 10

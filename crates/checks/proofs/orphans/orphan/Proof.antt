@@ -56,7 +56,8 @@ returns-3 : tie.Need-returns-3
 returns-3 c =
     λ p l f.
     let q = c .before .before .before .before .before .q3 .given .1 in
-    c .orphaned .ensures (after p _) (lent-taken p q l (c .before .before .taken-from .ensures)) (appointments-taken p q f) ∙ orphan-taken p q
+    c .orphaned .ensures (after p _) (lent-taken p q l (c .before .before .taken-from .ensures)) (appointments-taken p q f)
+    ∙ orphan-taken p q
 
 returns-4 : tie.Need-returns-4
 unfolding orphan
@@ -66,7 +67,8 @@ returns-5 : tie.Need-returns-5
 returns-5 c =
     λ p l f.
     let q = c .before .before .before .q5 .given .1 in
-    c .orphaned2 .ensures (after p _) (lent-dismissed p q l) (appointments-dismissed p q f (c .before .appointed-at .ensures)) ∙ orphan-dismissed p q
+    c .orphaned2 .ensures (after p _) (lent-dismissed p q l) (appointments-dismissed p q f (c .before .appointed-at .ensures))
+    ∙ orphan-dismissed p q
 
 returns-6 : tie.Need-returns-6
 unfolding orphan

@@ -123,7 +123,23 @@ returns-7 c =
 
 returns-8 : tie.Need-returns-8
 unfolding request
-returns-8 c = simp (← c .before .before .before .before .before .before .kind-field .ensures, ne-eqb _ _ (c .match .rest .0 .0 .0 .0 .0 .0 .1), ne-eqb _ _ (c .match .rest .0 .0 .0 .0 .0 .1), ne-eqb _ _ (c .match .rest .0 .0 .0 .0 .1), ne-eqb _ _ (c .match .rest .0 .0 .0 .1), ne-eqb _ _ (c .match .rest .0 .0 .1), ne-eqb _ _ (c .match .rest .0 .1), ne-eqb _ _ (c .match .rest .1), ← c .before .before .before .before .before .byte .ensures, ← c .before .before .before .before .byte2 .ensures, ← c .before .before .before .byte3 .ensures, ← c .before .before .byte4 .ensures, ← c .before .byte5 .ensures)
+returns-8 c =
+    let b = c .before .before .before .before in
+    simp (
+      ← b .before .before .kind-field .ensures,
+      ne-eqb _ _ (c .match .rest .0 .0 .0 .0 .0 .0 .1),
+      ne-eqb _ _ (c .match .rest .0 .0 .0 .0 .0 .1),
+      ne-eqb _ _ (c .match .rest .0 .0 .0 .0 .1),
+      ne-eqb _ _ (c .match .rest .0 .0 .0 .1),
+      ne-eqb _ _ (c .match .rest .0 .0 .1),
+      ne-eqb _ _ (c .match .rest .0 .1),
+      ne-eqb _ _ (c .match .rest .1),
+      ← b .before .byte .ensures,
+      ← b .byte2 .ensures,
+      ← c .before .before .before .byte3 .ensures,
+      ← c .before .before .byte4 .ensures,
+      ← c .before .byte5 .ensures,
+    )
 
 pub request-of-spec : {M : Type 1} → statement M
 request-of-spec =
