@@ -9,6 +9,7 @@ use Rattle.reach.specs.declared.AccessRule.{AccessRule}
 use Rattle.reach.specs.Tables.{noAppointment, appointment, noRule, rule}
 use Rattle.reach.proofs.AsRead.{appointment-is, rule-is}
 use Rattle.rules.specs.declared.Request.{Request}
+use Rattle.rules.specs.declared.Request.the-variants.{Dismiss, Withdraw}
 use Rattle.forms.specs.Naming.{placeOf, Named}
 
 module _ {p : Policy} {q n : Request} {w : Appointment} {r : AccessRule} (e : q ≡ n) (f : Named p q w r) where
@@ -17,6 +18,16 @@ module _ {p : Policy} {q n : Request} {w : Appointment} {r : AccessRule} (e : q 
 
   pub named-rule : r ≡ rule p (placeOf n)
   named-rule = subst (λ (k : Request). r ≡ rule p (placeOf k)) e (f .rule)
+
+-- DISMISS and WITHDRAW name a place by its number.
+module _ {p : Policy} {q : Request} {w : Appointment} {r : AccessRule} {i : ℕ} where
+  pub named-by-dismiss : q ≡ Dismiss i → Named p q w r → w ≡ appointment p i
+  unfolding placeOf
+  named-by-dismiss e f = named-appointment e f
+
+  pub named-by-withdraw : q ≡ Withdraw i → Named p q w r → r ≡ rule p i
+  unfolding placeOf
+  named-by-withdraw e f = named-rule e f
 
 -- What the code reads at that place, from tables that are the policy's.
 pub named-of : (p : Policy) (q : Request) {l : List Appointment} {k : List AccessRule} → p .appointments ≡ l → p .rules ≡ k

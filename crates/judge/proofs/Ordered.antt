@@ -14,7 +14,6 @@ use Rattle.reach.specs.declared.Policy.{Policy}
 use Rattle.reach.specs.Tests.{_⇒_∥_}
 use Rattle.reach.proofs.WordSets.{below-next}
 use Rattle.rules.specs.declared.Request.{Request}
-use Rattle.rules.specs.declared.Request.the-variants.{Make, Put, Take, Appoint, Dismiss, Grant, Withdraw, Use}
 use Rattle.rules.specs.declared.Verdict.{Verdict}
 use Rattle.rules.specs.declared.Verdict.the-variants.{Torn, Unknown, Misfit, Stranger, OffTheSheet, Absent, WrongSort, AlreadySo}
 use Rattle.rules.specs.declared.Verdict.the-variants.{NoAuthority, OwnGain, HandOver, Orphan}
@@ -22,9 +21,8 @@ use Rattle.rules.specs.Records.{sender, request}
 use Rattle.rules.specs.Doing.{after}
 use Rattle.rules.specs.Refusals.{torn, unknown, misfit, stranger, offTheSheet, absent, wrongSort, alreadySo, noAuthority, ownGain}
 use Rattle.rules.specs.Refusals.{handOver, orphan}
-use Rattle.rules.specs.Judging.{codeOf, doneBy, done, verdictOn, verdict, accepted, judge}
+use Rattle.rules.specs.Judging.{codeOf, done, verdictOn, verdict, accepted, judge}
 use Rattle.rules.proofs.Table.{done-accepted}
-use Rattle.checks.specs.Permitting.{permittingRule}
 use Rattle.judge.specs.Answering.{answered}
 
 abbrev tests : Policy → List ℕ → ℕ → Request → List Bool
@@ -101,18 +99,6 @@ module _ (p : Policy) (b : List ℕ) (u : ℕ) (q : Request) (e : u ≡ sender b
   -- Where no test holds the request is done.
   pub verdict-done : Passed p b u q 12 → done p u q ≡ verdict p b
   verdict-done k = sym (table ∙ first-none (tests p b u q) refusals (done p u q) (k .none))
-
--- The verdict on an accepted request is that of the rule that permits it, if it is a USE.
-pub done-is : (p : Policy) (u : ℕ) (q : Request) → doneBy (permittingRule p u q) ≡ done p u q
-unfolding permittingRule done
-done-is p u (Make i s g) = refl
-done-is p u (Put x g) = refl
-done-is p u (Take x g) = refl
-done-is p u (Appoint i k h a b) = refl
-done-is p u (Dismiss i) = refl
-done-is p u (Grant i v t o) = refl
-done-is p u (Withdraw i) = refl
-done-is p u (Use x k) = refl
 
 -- ---- The answer
 

@@ -7,12 +7,14 @@ use native.Mathlib.Nat.{le-refl}
 use native.Mathlib.Omega.{arith}
 use lib.Bits.{bitAnd}
 use lib.Dec.{eqb, ltb}
+use lib.ListN.{getD}
 use Rattle.reach.specs.declared.Policy.{Policy}
+use Rattle.reach.specs.declared.Appointment.{Appointment}
 use Rattle.reach.specs.declared.Place.the-variants.{At, Nothing}
 use Rattle.reach.specs.Words.{bit, has, SetOf}
 use Rattle.reach.specs.Tests.{some, Some, Decides, _⇒_∥_, lowest}
-use Rattle.reach.specs.Tables.{sort, appointment, rule, view}
-use Rattle.reach.specs.Reach.{InUse, User, Target, isUser, isTarget}
+use Rattle.reach.specs.Tables.{counted, sort, stored, appointment, standing, rule, view}
+use Rattle.reach.specs.Reach.{InUse, User, Target, inUse, isGroup, isUser, isTarget, direct}
 use Rattle.reach.specs.Privileges.{HoldsBy, Holds, AdministersBy, Administers, PermitsBy, Permitted, Orphan, administrator, holdsBy}
 use Rattle.reach.specs.Privileges.{holds, administersBy, administers, permitsBy, askable, permitted, permitting, orphaned}
 use Rattle.reach.proofs.Testing.{decides-as, decides-same, decides-and, decides-not, decides-some, decides-eqb, decides-ltb}
@@ -20,6 +22,16 @@ use Rattle.reach.proofs.Testing.{decides-true, some-map, lowest-none, l
 use Rattle.reach.proofs.WordSets.{set-mask, set-not, set-empty, decides-nonempty, has-is}
 use Rattle.reach.proofs.Places.{OwnedAt}
 use Rattle.reach.proofs.Chains.{in-use-below, decides-in-use, under-decides}
+
+-- What decides that a place is not empty: the kind that counts.
+pub standing-decides : (w : Appointment) → Decides (standing w) (0 < counted (w .kind))
+unfolding standing
+standing-decides w = decides-ltb 0 (counted (w .kind))
+
+-- Direct membership is asked of the sorts and of the group's row.
+pub direct-of-row : (p : Policy) (x g : ℕ) → inUse p x && isGroup p g && has (getD (p .members) g 0) x ≡ direct p x g
+unfolding direct stored
+direct-of-row p x g = refl
 
 -- What decides a user and an object: the sort that counts.
 pub decides-user : (p : Policy) (u : ℕ) → Decides (isUser p u) (User (view p) u)

@@ -11,19 +11,19 @@ use Rattle.frame.specs.Fields.{lengthField, kindField}
 use Rattle.reach.specs.declared.Policy.{Policy}
 use Rattle.reach.specs.declared.Appointment.{Appointment}
 use Rattle.reach.specs.Tests.{_⇒_∥_, Decides}
-use Rattle.reach.specs.Tables.{counted, sort, stored, appointment, standing, rule, view}
+use Rattle.reach.specs.Tables.{sort, stored, appointment, standing, rule, view}
 use Rattle.reach.specs.Reach.{InUse, Group, User, Direct, isGroup}
 use Rattle.reach.specs.Privileges.{owner, manager, administrator, Owns, Manages, owns, manages}
 use Rattle.reach.proofs.Testing.{decides-as, decides-and, decides-or, decides-eqb, decides-ltb, decides-true, refuted, fails}
 use Rattle.reach.proofs.Chains.{in-use-below, decides-in-use, decides-direct}
-use Rattle.reach.proofs.Deciding.{decides-user, user-below, holds-decides, administers-decides, permitted-decides}
+use Rattle.reach.proofs.Deciding.{standing-decides, decides-user, user-below, holds-decides, administers-decides, permitted-decides}
 use Rattle.rules.specs.declared.Request.{Request}
 use Rattle.rules.specs.declared.Request.the-variants.{Make, Put, Take, Appoint, Dismiss, Grant, Withdraw, Use}
 use Rattle.rules.specs.Records.{lengthOf}
 use Rattle.rules.specs.Authority.{governs, mayAppoint, may}
 use Rattle.rules.specs.Refusals.{torn, unknown, misfit, stranger, oneToThree, offTheSheet, empty, absent, wrongSort, alreadySo}
 use Rattle.rules.specs.Refusals.{noAuthority}
-use Rattle.rules.specs.Allowing.{WellFormed, Governs, MayAppoint, as-owner, as-manager, Authority, Standing, Fits}
+use Rattle.rules.specs.Allowing.{WellFormed, Governs, MayAppoint, as-owner, as-manager, Authority, Fits}
 use Rattle.rules.proofs.Passing.{Passes, passes-as, passes-all, passes-or, passes-not, passes-of, passes-ltb, passes-where}
 use Rattle.rules.proofs.Passing.{passes-either, decides-leb}
 
@@ -67,11 +67,6 @@ module _ (p : Policy) where
 
   one-to-three : (k : ℕ) → Passes (not (oneToThree k)) ((1 ≤ k) × (k ≤ 3))
   one-to-three k = passes-not _ (decides-and _ _ (decides-leb 1 k) (decides-leb k 3))
-
-  -- A place stands, or is vacant.
-  decides-standing : (w : Appointment) → Decides (standing w) (Standing w)
-  unfolding standing
-  decides-standing w = decides-ltb 0 (counted (w .kind))
 
   clash : {t : Bool} → t ≡ true → t ≡ false → ⊥
   clash e f = true≢false (sym e ∙ f)
@@ -137,7 +132,7 @@ module _ (p : Policy) where
       (passes-or _ _
       (passes-or _ _ (grouped a) (passes-where _ _ (decides-eqb k administrator) (grouped b)))
       (passes-not _ (decides-user p h)))
-      (passes-of _ (decides-standing (appointment p i))))
+      (passes-of _ (standing-decides (appointment p i))))
       (λ w. (
         omega (arith, w .0 .0 .0 .0 .0 .0 .0),
         record {
@@ -165,7 +160,7 @@ module _ (p : Policy) where
       ))
   fits (Dismiss i) =
       passes-as
-      (four (Dismiss i) (passes-ltb 31 i) (passes-not _ (decides-standing (appointment p i))) passes-all passes-all)
+      (four (Dismiss i) (passes-ltb 31 i) (passes-not _ (standing-decides (appointment p i))) passes-all passes-all)
       (λ w. (omega (arith, w .0 .0 .0), w .0 .0 .1))
       (λ f. (((omega (arith, f .0), f .1), tt), tt))
   fits (Grant i u t o) =

@@ -16,7 +16,8 @@ use Rattle.rules.specs.Cleared.{Authorised}
 use Rattle.forms.specs.Naming.{Named}
 use Rattle.forms.proofs.Masking.{no-stranger}
 use Rattle.forms.proofs.Naming.{named-of}
-use Rattle.judge.proofs.Ordered.{Passed, pass-start, pass, verdict-stops, verdict-done, done-is}
+use Rattle.judge.proofs.Ordered.{Passed, pass-start, pass, verdict-stops, verdict-done}
+use Rattle.checks.proofs.Governing.{done-is}
 use borrow.Author.Needs.{needs}
 use Rattle.judge.proofs.verdict.Statement.{statement}
 use Rattle.judge.proofs.verdict.Tie as tie

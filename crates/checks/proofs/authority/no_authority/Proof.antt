@@ -3,10 +3,9 @@ use Rattle.reach.proofs.WordSets.{has-is}
 use Rattle.reach.proofs.Deciding.{administers-decides}
 use Rattle.rules.specs.Authority.{may}
 use Rattle.rules.specs.Refusals.{noAuthority}
-use Rattle.forms.specs.Naming.{placeOf}
 use Rattle.checks.specs.Permitting.{permittingRule}
 use Rattle.checks.proofs.Governing.{governed-is, found-is}
-use Rattle.forms.proofs.Naming.{named-appointment, named-rule}
+use Rattle.forms.proofs.Naming.{named-by-dismiss, named-by-withdraw}
 use borrow.Author.Needs.{needs}
 use Rattle.checks.proofs.authority.no_authority.Statement.{statement}
 use Rattle.checks.proofs.authority.no_authority.Tie as tie
@@ -86,12 +85,12 @@ unfolding noAuthority may
 returns-4 c = λ p l e n f. rw (c .before .before .q4 .given .1, c .may-appoint .ensures p l e)
 
 returns-5 : tie.Need-returns-5
-unfolding noAuthority may placeOf
+unfolding noAuthority may
 returns-5 c =
     λ p l e n f. rw (
       c .before .before .q5 .given .1,
       c .may-appoint2 .ensures p l e,
-      named-appointment (c .before .before .q5 .given .1) n,
+      named-by-dismiss (c .before .before .q5 .given .1) n,
     )
 
 returns-6 : tie.Need-returns-6
@@ -104,13 +103,13 @@ returns-6 c =
     )
 
 returns-7 : tie.Need-returns-7
-unfolding noAuthority may placeOf
+unfolding noAuthority may
 returns-7 c =
     λ p l e n f. rw (
       c .before .before .before .q7 .given .1,
       c .has3 .ensures,
       has-is (c .before .administered2 .ensures p l e) _ _ (administers-decides p _ _ _),
-      named-rule (c .before .before .before .q7 .given .1) n,
+      named-by-withdraw (c .before .before .before .q7 .given .1) n,
     )
 
 returns-8 : tie.Need-returns-8

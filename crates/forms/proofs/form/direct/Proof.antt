@@ -1,6 +1,6 @@
 -- Direct membership, by the masks and the row.
-use Rattle.reach.specs.Tables.{stored}
-use Rattle.reach.specs.Reach.{direct}
+use mathlib.Core.Path.{sym}
+use Rattle.reach.proofs.Deciding.{direct-of-row}
 use Rattle.forms.proofs.Masking.{in-use-is, group-is}
 use borrow.Author.Needs.{needs}
 use Rattle.forms.proofs.form.direct.Statement.{statement}
@@ -19,7 +19,6 @@ has-requires-3 : tie.Need-has-requires-3
 has-requires-3 c κs = search needs
 
 returns : tie.Need-returns
-unfolding direct stored
 returns c =
     λ p l. rw (
       c .before .before .before .before .has .ensures,
@@ -28,8 +27,8 @@ returns c =
       group-is (l .masks) _,
       c .has3 .ensures,
       c .before .row .ensures,
-      l .rows,
-    )
+      sym (l .rows),
+    ) (direct-of-row p _ _)
 
 pub direct-spec : {M : Type 1} → statement M
 direct-spec = tie.close (tie.spec has-requires has-requires-2 row-requires has-requires-3 returns)
