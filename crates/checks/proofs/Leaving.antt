@@ -12,8 +12,8 @@ use Rattle.reach.specs.Privileges.{orphaned}
 use Rattle.reach.specs.Successors.{takenFrom}
 use Rattle.reach.specs.Surveys.{Lent}
 use Rattle.reach.proofs.Sorts.{masks-same}
-use Rattle.reach.proofs.AsRead.{taken-sorts, taken-members, taken-appointments}
-use Rattle.reach.proofs.AsRead.{appointed-sorts, appointed-members, appointed-appointments}
+use Rattle.reach.proofs.TableByTable.{taken-sorts, taken-members, taken-appointments}
+use Rattle.reach.proofs.TableByTable.{appointed-sorts, appointed-members, appointed-appointments}
 use Rattle.rules.specs.declared.Request.{Request}
 use Rattle.rules.specs.declared.Request.the-variants.{Take, Dismiss}
 use Rattle.rules.specs.Doing.{after}

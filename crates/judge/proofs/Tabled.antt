@@ -10,11 +10,11 @@ use Rattle.reach.specs.declared.Masks.{Masks}
 use Rattle.reach.specs.Surveys.{MasksOf}
 use Rattle.reach.specs.Tables.{noAppointment, noRule}
 use Rattle.reach.proofs.Sorts.{masks-same}
-use Rattle.reach.proofs.AsRead.{made-sorts, made-members, made-appointments, made-rules}
-use Rattle.reach.proofs.AsRead.{put-sorts, put-members, put-appointments, put-rules}
-use Rattle.reach.proofs.AsRead.{taken-sorts, taken-members, taken-appointments, taken-rules}
-use Rattle.reach.proofs.AsRead.{appointed-sorts, appointed-members, appointed-appointments, appointed-rules}
-use Rattle.reach.proofs.AsRead.{ruled-sorts, ruled-members, ruled-appointments, ruled-rules}
+use Rattle.reach.proofs.TableByTable.{made-sorts, made-members, made-appointments, made-rules}
+use Rattle.reach.proofs.TableByTable.{put-sorts, put-members, put-appointments, put-rules}
+use Rattle.reach.proofs.TableByTable.{taken-sorts, taken-members, taken-appointments, taken-rules}
+use Rattle.reach.proofs.TableByTable.{appointed-sorts, appointed-members, appointed-appointments, appointed-rules}
+use Rattle.reach.proofs.TableByTable.{ruled-sorts, ruled-members, ruled-appointments, ruled-rules}
 use Rattle.rules.specs.declared.Request.{Request}
 use Rattle.rules.specs.declared.Request.the-variants.{Make, Put, Take, Appoint, Dismiss, Grant, Withdraw, Use}
 use Rattle.rules.specs.Doing.{after}

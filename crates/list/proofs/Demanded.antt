@@ -7,7 +7,7 @@ use native.Mathlib.Omega.{arith}
 use Rattle.reach.specs.declared.Policy.{Policy}
 use Rattle.reach.specs.Tables.{View, Sized, view, initial}
 use Rattle.reach.specs.Reach.{User}
-use Rattle.reach.proofs.AsRead.{sized-initial}
+use Rattle.reach.proofs.Sizes.{sized-initial}
 use Rattle.reach.proofs.Founding.{initial-user, initial-appointment, initial-direct, initial-rule, initial-owns}
 use Rattle.rules.specs.Records.{sender}
 use Rattle.reach.specs.Privileges.{Owns, Manages}

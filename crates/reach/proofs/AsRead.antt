@@ -1,4 +1,4 @@
--- Each successor of a policy reads as its change says, and keeps the sizes of the tables.
+-- The places of a policy read as its tables have them, and each successor of a policy reads as its change says.
 -- A store into a table is read back at its place and nowhere else, and so is a store into a set.
 use mathlib.Core.Path.{_≡_, refl, sym, ap, _∙_}
 use mathlib.Core.Bool.{Bool, true, false, _&&_, and-true, and-false}
@@ -17,12 +17,10 @@ use Rattle.reach.specs.declared.AccessRule.{AccessRule}
 use Rattle.reach.specs.Words.{bit, has}
 use Rattle.reach.specs.Tests.{_⇒_∥_}
 use Rattle.reach.specs.Tables.{counted, sort, stored, appointment, noAppointment, rule, noRule}
-use Rattle.reach.specs.Tables.{View, view, Sized, initial}
+use Rattle.reach.specs.Tables.{View, view, Sized}
 use Rattle.reach.specs.Successors.{withBit, withoutBit, withMembers, withSorts, onTable, addTo, removeFrom, cleared}
-use Rattle.reach.specs.Successors.{sortedAs, madeIn, putInto, takenFrom}
 use Rattle.reach.specs.Successors.{put, taken, made, appointed, dismissed, ruled, granted, withdrawn}
 use Rattle.reach.specs.Changes.{viewMade, viewPut, viewTaken, viewAppointed, viewDismissed, viewRuled, viewGranted, viewWithdrawn}
-use Rattle.reach.proofs.Lists.{length-mapped}
 use Rattle.reach.proofs.OneBit.{has-with, has-without}
 
 -- Views that read alike are equal.
@@ -149,64 +147,6 @@ module _ (p : Policy) (z : Sized p) where
   pub view-withdrawn : (i : ℕ) → i < 64 → view (withdrawn p i) ≡ viewWithdrawn (view p) i
   view-withdrawn i a = view-ruled i noRule a
 
--- ---- The sizes
-
--- From the lengths of the tables, those of structs as the code's facts give them.
-pub sized-of-lengths : (p : Policy) (X Y : Type 0) (f : Appointment → X) (g : AccessRule → Y) → length (p .sorts) ≡ 64
-    → length (p .members) ≡ 64 → length (map f (p .appointments)) ≡ 32 → length (map g (p .rules)) ≡ 64 → Sized p
-sized-of-lengths p X Y f g s m a r =
-    record {
-      sorts = s;
-      members = m;
-      appointments = length-mapped _ _ f (p .appointments) 32 a;
-      rules = length-mapped _ _ g (p .rules) 64 r;
-    }
-
-sized-if : (t : Bool) (p q : Policy) → Sized p → Sized q → Sized (t ⇒ p ∥ q)
-sized-if true p q a b = a
-sized-if false p q a b = b
-
-module _ (p : Policy) (z : Sized p) where
-  pub sized-made : (x s g : ℕ) → Sized (made p x s g)
-  unfolding made
-  sized-made x s g =
-      sized-if (onTable x g) (withSorts (withMembers p (addTo (cleared (p .members) x) x g)) (set (p .sorts) x s)) p
-      (record {
-        sorts = simp length-set (z .sorts);
-        members = simp (length-set, length-map) (z .members);
-        appointments = z .appointments;
-        rules = z .rules;
-      })
-      z
-
-  sized-row : (x g w : ℕ) → Sized (onTable x g ⇒ withMembers p (set (p .members) g w) ∥ p)
-  sized-row x g w =
-      sized-if (onTable x g) (withMembers p (set (p .members) g w)) p
-      (record { sorts = z .sorts; members = simp length-set (z .members); appointments = z .appointments; rules = z .rules })
-      z
-
-  pub sized-put : (x g : ℕ) → Sized (put p x g)
-  unfolding put
-  sized-put x g = sized-row x g (withBit x (getD (p .members) g 0))
-
-  pub sized-taken : (x g : ℕ) → Sized (taken p x g)
-  unfolding taken
-  sized-taken x g = sized-row x g (withoutBit x (getD (p .members) g 0))
-
-  pub sized-appointed : (i : ℕ) (w : Appointment) → Sized (appointed p i w)
-  unfolding appointed
-  sized-appointed i w =
-      record { sorts = z .sorts; members = z .members; appointments = simp length-set (z .appointments); rules = z .rules }
-
-  pub sized-ruled : (i : ℕ) (r : AccessRule) → Sized (ruled p i r)
-  unfolding ruled
-  sized-ruled i r =
-      record { sorts = z .sorts; members = z .members; appointments = z .appointments; rules = simp length-set (z .rules) }
-
-pub sized-initial : Sized initial
-unfolding initial
-sized-initial = record { sorts = refl; members = refl; appointments = refl; rules = refl }
-
 -- ---- The places of the tables, as they are read
 
 pub appointment-is : (p : Policy) (i : ℕ) → view p .appointment i ≡ getD (p .appointments) i noAppointment
@@ -216,110 +156,3 @@ appointment-is p i = refl
 pub rule-is : (p : Policy) (i : ℕ) → view p .rule i ≡ getD (p .rules) i noRule
 unfolding rule
 rule-is p i = refl
-
--- ---- Each change, table by table
-
--- MAKE changes the sorts and the members, each as on its own table.
-pub made-is : (p : Policy) (x k g : ℕ)
-    → withSorts (withMembers p (madeIn (p .members) x g)) (sortedAs (p .sorts) x k g) ≡ made p x k g
-unfolding made
-made-is p x k g = either (onTable x g)
-  where
-    either : (t : Bool)
-        → withSorts (withMembers p (t ⇒ addTo (cleared (p .members) x) x g ∥ p .members)) (t ⇒ set (p .sorts) x k ∥ p .sorts)
-        ≡ (t ⇒ withSorts (withMembers p (addTo (cleared (p .members) x) x g)) (set (p .sorts) x k) ∥ p)
-    either true = refl
-    either false = refl
-
-pub made-sorts : (p : Policy) (x k g : ℕ) → made p x k g .sorts ≡ sortedAs (p .sorts) x k g
-made-sorts p x k g = sym (ap (λ (q : Policy). q .sorts) (made-is p x k g))
-
-pub made-members : (p : Policy) (x k g : ℕ) → made p x k g .members ≡ madeIn (p .members) x g
-made-members p x k g = sym (ap (λ (q : Policy). q .members) (made-is p x k g))
-
-pub made-appointments : (p : Policy) (x k g : ℕ) → made p x k g .appointments ≡ p .appointments
-made-appointments p x k g = sym (ap (λ (q : Policy). q .appointments) (made-is p x k g))
-
-pub made-rules : (p : Policy) (x k g : ℕ) → made p x k g .rules ≡ p .rules
-made-rules p x k g = sym (ap (λ (q : Policy). q .rules) (made-is p x k g))
-
--- PUT changes the members alone, as on their own table.
-pub put-is : (p : Policy) (x g : ℕ) → withMembers p (putInto (p .members) x g) ≡ put p x g
-unfolding put
-put-is p x g = either (onTable x g)
-  where
-    either : (t : Bool)
-        → withMembers p (t ⇒ addTo (p .members) x g ∥ p .members)
-        ≡ (t ⇒ withMembers p (addTo (p .members) x g) ∥ p)
-    either true = refl
-    either false = refl
-
-pub put-members : (p : Policy) (x g : ℕ) → put p x g .members ≡ putInto (p .members) x g
-put-members p x g = sym (ap (λ (q : Policy). q .members) (put-is p x g))
-
-pub put-appointments : (p : Policy) (x g : ℕ) → put p x g .appointments ≡ p .appointments
-put-appointments p x g = sym (ap (λ (q : Policy). q .appointments) (put-is p x g))
-
-pub put-rules : (p : Policy) (x g : ℕ) → put p x g .rules ≡ p .rules
-put-rules p x g = sym (ap (λ (q : Policy). q .rules) (put-is p x g))
-
--- TAKE changes the members alone, as on their own table.
-pub taken-is : (p : Policy) (x g : ℕ) → withMembers p (takenFrom (p .members) x g) ≡ taken p x g
-unfolding taken
-taken-is p x g = either (onTable x g)
-  where
-    either : (t : Bool)
-        → withMembers p (t ⇒ removeFrom (p .members) x g ∥ p .members)
-        ≡ (t ⇒ withMembers p (removeFrom (p .members) x g) ∥ p)
-    either true = refl
-    either false = refl
-
-pub taken-members : (p : Policy) (x g : ℕ) → taken p x g .members ≡ takenFrom (p .members) x g
-taken-members p x g = sym (ap (λ (q : Policy). q .members) (taken-is p x g))
-
-pub taken-appointments : (p : Policy) (x g : ℕ) → taken p x g .appointments ≡ p .appointments
-taken-appointments p x g = sym (ap (λ (q : Policy). q .appointments) (taken-is p x g))
-
-pub taken-rules : (p : Policy) (x g : ℕ) → taken p x g .rules ≡ p .rules
-taken-rules p x g = sym (ap (λ (q : Policy). q .rules) (taken-is p x g))
-
--- APPOINT and DISMISS change the appointments alone.
-pub appointed-members : (p : Policy) (i : ℕ) (w : Appointment) → appointed p i w .members ≡ p .members
-unfolding appointed
-appointed-members p i w = refl
-
-pub appointed-appointments : (p : Policy) (i : ℕ) (w : Appointment) → appointed p i w .appointments ≡ set (p .appointments) i w
-unfolding appointed
-appointed-appointments p i w = refl
-
-pub appointed-rules : (p : Policy) (i : ℕ) (w : Appointment) → appointed p i w .rules ≡ p .rules
-unfolding appointed
-appointed-rules p i w = refl
-
--- GRANT and WITHDRAW change the rules alone.
-pub ruled-members : (p : Policy) (i : ℕ) (r : AccessRule) → ruled p i r .members ≡ p .members
-unfolding ruled
-ruled-members p i r = refl
-
-pub ruled-appointments : (p : Policy) (i : ℕ) (r : AccessRule) → ruled p i r .appointments ≡ p .appointments
-unfolding ruled
-ruled-appointments p i r = refl
-
-pub ruled-rules : (p : Policy) (i : ℕ) (r : AccessRule) → ruled p i r .rules ≡ set (p .rules) i r
-unfolding ruled
-ruled-rules p i r = refl
-
--- Every change but MAKE leaves the sorts as they are.
-pub put-sorts : (p : Policy) (x g : ℕ) → put p x g .sorts ≡ p .sorts
-put-sorts p x g = sym (ap (λ (q : Policy). q .sorts) (put-is p x g))
-
-pub taken-sorts : (p : Policy) (x g : ℕ) → taken p x g .sorts ≡ p .sorts
-taken-sorts p x g = sym (ap (λ (q : Policy). q .sorts) (taken-is p x g))
-
-pub appointed-sorts : (p : Policy) (i : ℕ) (w : Appointment) → appointed p i w .sorts ≡ p .sorts
-unfolding appointed
-appointed-sorts p i w = refl
-
-pub ruled-sorts : (p : Policy) (i : ℕ) (r : AccessRule) → ruled p i r .sorts ≡ p .sorts
-unfolding ruled
-ruled-sorts p i r = refl

@@ -7,6 +7,8 @@ pub mod Reaching
 pub mod Frames
 pub mod OneBit
 pub mod AsRead
+pub mod Sizes
+pub mod TableByTable
 pub mod Sorts
 pub mod Founding
 pub mod Carrying

@@ -7,8 +7,8 @@ use Rattle.reach.specs.declared.Policy.{Policy}
 use Rattle.reach.specs.Tables.{Sized, view}
 use Rattle.reach.specs.Reach.{Group}
 use Rattle.reach.proofs.Chains.{in-use-below}
-use Rattle.reach.proofs.AsRead.{view-made, view-put, view-taken, view-appointed, view-dismissed, view-granted, view-withdrawn, sized-made}
-use Rattle.reach.proofs.AsRead.{sized-put, sized-taken, sized-appointed, sized-ruled}
+use Rattle.reach.proofs.AsRead.{view-made, view-put, view-taken, view-appointed, view-dismissed, view-granted, view-withdrawn}
+use Rattle.reach.proofs.Sizes.{sized-made, sized-put, sized-taken, sized-appointed, sized-ruled}
 use Rattle.rules.specs.declared.Request.{Request}
 use Rattle.rules.specs.declared.Request.the-variants.{Make, Put, Take, Appoint, Dismiss, Grant, Withdraw, Use}
 use Rattle.rules.specs.Doing.{after}

@@ -5,7 +5,7 @@ use Prim.Native.Nat.{ℕ}
 use denote.Ref.{now}
 use Rattle.reach.specs.declared.Policy.{Policy}
 use Rattle.reach.specs.Tables.{Sized}
-use Rattle.reach.proofs.AsRead.{sized-of-lengths}
+use Rattle.reach.proofs.Sizes.{sized-of-lengths}
 use Rattle.rules.specs.declared.Answer.{Answer}
 use Rattle.rules.specs.Judging.{judge, verdict, OneAnswer}
 use Rattle.rules.proofs.Bounded.{one-answer}

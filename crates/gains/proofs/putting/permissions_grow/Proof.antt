@@ -6,7 +6,7 @@ use Rattle.reach.proofs.Testing.{decides-at, decides-eqb, decides-and, decides-
 use Rattle.reach.proofs.WordSets.{has-decides}
 use Rattle.rows.specs.Rows.{FirstNew}
 use Rattle.rows.proofs.News.{decides-yes, decides-no}
-use Rattle.gains.proofs.Growing.{no-target, no-permission, permission-found, permission-none}
+use Rattle.gains.proofs.Opening.{no-target, no-permission, permission-found, permission-none}
 use borrow.Author.Needs.{needs}
 use Rattle.gains.proofs.putting.permissions_grow.Statement.{statement}
 use Rattle.gains.proofs.putting.permissions_grow.Tie as tie

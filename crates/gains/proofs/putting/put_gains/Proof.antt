@@ -1,6 +1,6 @@
 -- The sender gains by PUT what his holdings and his permissions say, each in its turn.
 use Rattle.reach.proofs.Testing.{refuted}
-use Rattle.gains.proofs.Growing.{holding-new, put-gain}
+use Rattle.gains.proofs.PutGain.{holding-new, put-gain}
 use borrow.Author.Needs.{needs}
 use Rattle.gains.proofs.putting.put_gains.Statement.{statement}
 use Rattle.gains.proofs.putting.put_gains.Tie as tie

@@ -9,7 +9,7 @@ use denote.Ref.{now}
 use Rattle.frame.specs.declared.Step.the-variants.{Record}
 use Rattle.frame.specs.Reading.{stepAt}
 use Rattle.frame.proofs.Steps.{Found, step-record}
-use Rattle.reach.proofs.AsRead.{sized-of-lengths}
+use Rattle.reach.proofs.Sizes.{sized-of-lengths}
 use Rattle.reach.specs.declared.Policy.{Policy}
 use Rattle.judge.specs.declared.Change.the-variants.{Objects, Members, Appointments, Rules, Nothing}
 use Rattle.judge.proofs.Tabled.{changed-is}

@@ -3,7 +3,7 @@ use mathlib.Core.Path.{ap₂, _∙_}
 use mathlib.Core.List.{List}
 use Prim.Native.Nat.{ℕ}
 use Rattle.reach.specs.Successors.{withSorts, withMembers}
-use Rattle.reach.proofs.AsRead.{made-is}
+use Rattle.reach.proofs.TableByTable.{made-is}
 use borrow.Author.Needs.{needs}
 use Rattle.reach.proofs.Policy.made.Statement.{statement}
 use Rattle.reach.proofs.Policy.made.Tie as tie

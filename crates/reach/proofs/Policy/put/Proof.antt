@@ -1,7 +1,7 @@
 -- The policy with x put directly into g in its table of members.
 use mathlib.Core.Path.{ap, _∙_}
 use Rattle.reach.specs.Successors.{withMembers}
-use Rattle.reach.proofs.AsRead.{put-is}
+use Rattle.reach.proofs.TableByTable.{put-is}
 use borrow.Author.Needs.{needs}
 use Rattle.reach.proofs.Policy.put.Statement.{statement}
 use Rattle.reach.proofs.Policy.put.Tie as tie

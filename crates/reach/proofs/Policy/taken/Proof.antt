@@ -1,7 +1,7 @@
 -- The policy with x taken out of g in its table of members.
 use mathlib.Core.Path.{ap, _∙_}
 use Rattle.reach.specs.Successors.{withMembers}
-use Rattle.reach.proofs.AsRead.{taken-is}
+use Rattle.reach.proofs.TableByTable.{taken-is}
 use borrow.Author.Needs.{needs}
 use Rattle.reach.proofs.Policy.taken.Statement.{statement}
 use Rattle.reach.proofs.Policy.taken.Tie as tie
