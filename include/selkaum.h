@@ -21,6 +21,9 @@ extern "C" {
  *   576 .. 703   32 appointments (warrants) of 4 bytes: kind (0 empty, 1 owner, 2 manager, 3 administrator), holder, A, B
  *   704 .. 959   64 rules of 4 bytes: mark (1 in use, else empty), U, T, operations
  *
+ * A mark that is neither 0 nor 1 is an empty place, and comes back as 0, even with a refusal; all other bytes of a picture are kept as
+ * they are, but for what an accepted record changes.
+ *
  * The founding's picture has 1 at byte 0, 2 at byte 1, 2 at byte 64, 1 at bytes 576 and 577, and 0 elsewhere.
  */
 #define SELKAUM_POLICY_BYTES 960

@@ -78,16 +78,28 @@ fn make(sheet: &mut Sheet, sender: u8, place: u8, sort: u8, group: u8) -> Verdic
     Ok(NO_RULE)
 }
 
-fn put(sheet: &mut Sheet, sender: u8, object: u8, group: u8) -> Verdict {
-    refuse_if(object > 63 || group > 63, 5)?;
-    let before = Holdings::on(sheet);
-    refuse_if(!has(before.sorts.all, object), 6)?;
-    refuse_if(!has(before.sorts.all, group), 6)?;
-    refuse_if(!has(before.sorts.groups, group), 7)?;
-    refuse_if(has(sheet.members[at(group)], object), 8)?;
+/// Checks 6 and 7 of PUT and TAKE: the object and the group are there.
+fn placed(before: &Holdings, object: u8, group: u8) -> Result<(), u8> {
+    let sorts = &before.sorts;
+    refuse_if(!has(sorts.all, object), 6)?;
+    refuse_if(!has(sorts.all, group), 6)?;
+    refuse_if(!has(sorts.groups, group), 7)
+}
+
+/// Check 9 of PUT and TAKE: the sender owns or manages both. What he owns, and what he manages.
+fn governs_both(before: &Holdings, sender: u8, object: u8, group: u8) -> Result<(u64, u64), u8> {
     let (owned, managed) = before.owned_and_managed(sender);
     refuse_if(!has(owned | managed, object), 9)?;
     refuse_if(!has(owned | managed, group), 9)?;
+    Ok((owned, managed))
+}
+
+fn put(sheet: &mut Sheet, sender: u8, object: u8, group: u8) -> Verdict {
+    refuse_if(object > 63 || group > 63, 5)?;
+    let before = Holdings::on(sheet);
+    placed(&before, object, group)?;
+    refuse_if(has(sheet.members[at(group)], object), 8)?;
+    let (owned, managed) = governs_both(&before, sender, object, group)?;
 
     let after = before.with(object, group);
     let (owns, manages) = after.owned_and_managed(sender);
@@ -110,13 +122,9 @@ fn grows(before: [u64; 8], after: [u64; 8]) -> bool {
 fn take(sheet: &mut Sheet, sender: u8, object: u8, group: u8) -> Verdict {
     refuse_if(object > 63 || group > 63, 5)?;
     let before = Holdings::on(sheet);
-    refuse_if(!has(before.sorts.all, object), 6)?;
-    refuse_if(!has(before.sorts.all, group), 6)?;
-    refuse_if(!has(before.sorts.groups, group), 7)?;
+    placed(&before, object, group)?;
     refuse_if(!has(sheet.members[at(group)], object), 8)?;
-    let (owned, managed) = before.owned_and_managed(sender);
-    refuse_if(!has(owned | managed, object), 9)?;
-    refuse_if(!has(owned | managed, group), 9)?;
+    governs_both(&before, sender, object, group)?;
     let after = before.without(object, group);
     refuse_if(after.orphans(&sheet.warrants) != 0, 12)?;
 

@@ -1,4 +1,5 @@
-// Selkaum for C and Rust: the entry points of a static library. No function asks anything of its caller beyond buffers that are there.
+// Selkaum for C and Rust: the entry points of a static library. No function asks anything of its caller beyond buffers that are there and
+// do not overlap.
 ghost use Rattle.text.specs.Text.{Printed};
 ghost use Rattle.list.specs.Report.{report};
 ghost use Rattle.export.specs.Picture.{Judged};
@@ -12,8 +13,8 @@ use judge::code_of;
 use judge::judge;
 use reading::policy_of;
 
-// The text that the program prints for its input, of any length, into out. A buffer that is too small gets as much of the text as it has
-// room for. The result counts the bytes written.
+// The lines for the records of an input of any length into out, as the program prints them for one that is not too long. A buffer that is
+// too small gets as much of the text as it has room for. The result counts the bytes written.
 #[no_mangle]
 pub extern "C" fn selkaum_report(input: &[u8], out: &mut [u8]) -> usize
     ensures { λ r. ⌜ Printed (now (out .entry)) (report (now (input .entry))) (now (out .exit)) r ⌝ }

@@ -8,7 +8,7 @@ use Rattle.reach.specs.Tables.{appointment, rule}
 use Rattle.rules.specs.declared.Request.{Request}
 use Rattle.rules.specs.declared.Request.the-variants.{Make, Put, Take, Appoint, Dismiss, Grant, Withdraw, Use}
 
--- The place that a request names; 0 for those that name none.
+-- The place in the table of appointments or of rules that a request names; 0 for those that name none there.
 unfoldable pub placeOf : Request → ℕ
 placeOf (Make i s g) = 0
 placeOf (Put x g) = 0

@@ -68,7 +68,7 @@ pub fn request_of(b: &[u8]) -> Request
     }
 }
 
-// The place that a request names; 0 for those that name none.
+// The place in the table of appointments or of rules that a request names; 0 for those that name none there.
 pub fn place_of(q: Request) -> u8
     ensures { λ r. ⌜ r ≡ placeOf q ⌝ }
 {

@@ -1,4 +1,4 @@
--- What a request would give, as checks 10 and 11 look for it.
+-- What a request would give its sender, as check 10 looks for it.
 use mathlib.Core.Logic.{_⊎_}
 use Prim.Native.Nat.{ℕ}
 use Rattle.reach.specs.declared.Policy.{Policy}

@@ -22,7 +22,8 @@ manager = 2
 abbrev pub administrator : ℕ
 administrator = 3
 
--- The appointment at place i is of that kind, u holds it, and x is under its A.
+-- The appointment at place i is of that kind, u holds it, and x is under its A. [01:keeps.13] "For kinds 1 and 2, B is 0 and unread": no B
+-- stands here (D15).
 pub record HoldsBy (v : View) (kind u x i : ℕ) : Type 0 where
   pub is-kind : v .appointment i .kind ≡ kind
   pub is-holder : v .appointment i .holder ≡ u
@@ -40,6 +41,7 @@ Owns v u x = Holds v owner u x
 abbrev pub Manages : View → ℕ → ℕ → Type 0
 Manages v u x = Holds v manager u x
 
+-- [01:keeps.12] "For an administrator A holds users and B holds gear." [01:keeps.13] "for kind 3, B = 0 means object 0."
 -- [01:reach.5] ".. administers the pair (a, b) if he holds one administrator warrant with a under A and b under B."
 pub record AdministersBy (v : View) (u a b i : ℕ) : Type 0 where
   pub is-kind : v .appointment i .kind ≡ administrator
@@ -52,6 +54,7 @@ pub record Administers (v : View) (u a b : ℕ) : Type 0 where
   pub by : Some 32 (AdministersBy v u a b)
 
 -- [01:reach.6] "He is permitted operation k on gear x if some one rule has bit k, himself under U and x under T."
+-- [01:keeps.15] "Operation k is the bit worth 2 to the power k".
 pub record PermitsBy (v : View) (u k x i : ℕ) : Type 0 where
   pub used : v .rule i .used ≡ true
   pub operation : bit (v .rule i .operations) k ≡ 1

@@ -28,7 +28,8 @@ pub record Direct (v : View) (x g : ℕ) : Type 0 where
   pub is-stored : v .stored x g ≡ true
 
 -- [01:reach.2] "For x and g in use, x is under g if x = g or a chain of one or more direct memberships leads from x up to g; an
--- empty object is under nothing."
+-- empty object is under nothing." [01:keeps.17] "a stored number outside its table, or naming an empty object, covers nothing": both ends
+-- of a chain are in use, and so no such number is one.
 pub data Under (v : View) : ℕ → ℕ → Type 0 where
   itself : {x : ℕ} → InUse v x → Under v x x
   up : {x h g : ℕ} → Direct v x h → Under v h g → Under v x g

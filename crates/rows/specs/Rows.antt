@@ -9,7 +9,6 @@ use lib.ListN.{length, getD}
 use Rattle.reach.specs.declared.Appointment.{Appointment}
 use Rattle.reach.specs.declared.AccessRule.{AccessRule}
 use Rattle.reach.specs.Words.{bit, SetOf}
-use Rattle.reach.specs.Tests.{Some}
 use Rattle.reach.specs.Tables.{noAppointment, noRule}
 use Rattle.rows.specs.declared.Gain.{Gain}
 use Rattle.rows.specs.declared.Gain.the-variants.{Permission, Nothing}

@@ -1,4 +1,4 @@
--- What a change from the policy p to the policy n gives, hands over, and leaves without an owner.
+-- What a change from the policy p to the policy n gives and hands over.
 use mathlib.Core.Bool.{Bool, not, _&&_, _||_}
 use Prim.Native.Nat.{ℕ}
 use Rattle.reach.specs.declared.Policy.{Policy}
