@@ -1,7 +1,7 @@
 -- Document 01's sample, of the rules themselves: judged from the founding, the sixteen records give the sixteen lines; so do those after
 -- them, and the records that walk through the traps. By computation.
 use mathlib.Core.Path.{_≡_, refl}
-use mathlib.Core.List.{List, [], _∷_, _++_}
+use mathlib.Core.List.{List, [], _∷_, _++_, map}
 use Prim.Native.Nat.{ℕ}
 use Rattle.reach.specs.declared.Policy.{Policy}
 use Rattle.reach.specs.Words.{bit, has}
@@ -17,7 +17,8 @@ use Rattle.rules.specs.Gains.{gives, handsOver}
 use Rattle.rules.specs.Refusals.{torn, unknown, misfit, stranger, offTheSheet, absent, wrongSort, alreadySo, noAuthority, ownGain}
 use Rattle.rules.specs.Refusals.{handOver, orphan}
 use Rattle.rules.specs.Judging.{codeOf, citedOf, done, verdictOn, verdict, judge, answers}
-use Rattle.rules.specs.Sample.{records, expected, further, furtherExpected, traps, trapsExpected, rows, rowsExpected}
+use Rattle.rules.specs.Sample.{records, expected, further, furtherExpected}
+use Rattle.rules.specs.Trials.{recordOf, answerOf, traps, rows}
 
 -- The answers with every rule open: what is to compute opens this one.
 unfoldable pub computed : Policy → List (List ℕ) → List (ℕ × ℕ)
@@ -38,11 +39,11 @@ unfolding computed
 sample-further = refl
 
 -- The traps, after the sample.
-pub sample-traps : answers initial (records ++ traps) ≡ expected ++ trapsExpected
+pub sample-traps : answers initial (records ++ map recordOf traps) ≡ expected ++ map answerOf traps
 unfolding computed
 sample-traps = refl
 
 -- The rows of the table of refusals, after the sample.
-pub sample-rows : answers initial (records ++ rows) ≡ expected ++ rowsExpected
+pub sample-rows : answers initial (records ++ map recordOf rows) ≡ expected ++ map answerOf rows
 unfolding computed
 sample-rows = refl

@@ -9,4 +9,5 @@ pub mod Refusals
 pub mod Judging
 pub mod Allowing
 pub mod Sample
+pub mod Trials
 pub mod Cleared
