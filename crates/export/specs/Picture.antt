@@ -84,8 +84,8 @@ rowBytes w = bytesOf 8 w
 abbrev pub appointmentBytes : Appointment → Bytes
 appointmentBytes w = w .kind ∷ w .holder ∷ w .a ∷ w .b ∷ []
 
--- The mark is written 1 or 0: one that was read as neither, an empty place, comes back as 0. It is the one byte of which a picture says more
--- than its policy.
+-- The mark is written 1 or 0: one that was read as neither, an empty place, comes back as 0. It is the one byte of which a picture says
+-- more than its policy.
 abbrev pub mark : Bool → ℕ
 mark used = used ⇒ 1 ∥ 0
 

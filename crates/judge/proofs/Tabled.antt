@@ -68,7 +68,8 @@ rules-after p (Use x k) = refl
 
 -- A policy of the four tables is the policy after.
 pub after-is : (p : Policy) (q : Request) {s m : List ℕ} {a : List Appointment} {r : List AccessRule}
-    → s ≡ sortsAfter (p .sorts) q → m ≡ membersAfter (p .members) q → a ≡ appointmentsAfter (p .appointments) q → r ≡ rulesAfter (p .rules) q
+    → s ≡ sortsAfter (p .sorts) q → m ≡ membersAfter (p .members) q
+    → a ≡ appointmentsAfter (p .appointments) q → r ≡ rulesAfter (p .rules) q
     → record { sorts = s; members = m; appointments = a; rules = r } ≡ after p q
 after-is p q e f g h =
     rw
@@ -98,6 +99,7 @@ changed-all p (Use x k) = after-is p (Use x k) refl refl refl refl
 
 pub changed-is : (p : Policy) (q : Request) (c : Change) {s m : List ℕ} {a : List Appointment} {r : List AccessRule}
     → c ≡ changeOf q
-    → s ≡ sortsAfter (p .sorts) q → m ≡ membersAfter (p .members) q → a ≡ appointmentsAfter (p .appointments) q → r ≡ rulesAfter (p .rules) q
+    → s ≡ sortsAfter (p .sorts) q → m ≡ membersAfter (p .members) q
+    → a ≡ appointmentsAfter (p .appointments) q → r ≡ rulesAfter (p .rules) q
     → changed p c s m a r ≡ after p q
 changed-is p q c d e f g h = rw (d, e, f, g, h) (changed-all p q)

@@ -157,11 +157,13 @@ module _ (p : Policy) (b : Bytes) {v : Verdict} {code : ℕ} (e : v ≡ verdict 
 -- ---- The limit on the input
 
 -- An input past the limit.
-pub printed-too-long : (b : Bytes) {out out′ : Bytes} {r : ℕ} → 65536 < length b → Wrote out 0 tooLong out′ r → Printed out (output b) out′ r
+pub printed-too-long : (b : Bytes) {out out′ : Bytes} {r : ℕ} → 65536 < length b → Wrote out 0 tooLong out′ r
+    → Printed out (output b) out′ r
 unfolding output
 printed-too-long b h w = rw (lt-ltb 65536 (length b) h) (printed-of-wrote w)
 
 -- An input within it.
-pub printed-report : (b : Bytes) {out out′ : Bytes} {r : ℕ} → length b ≤ 65536 → Printed out (report b) out′ r → Printed out (output b) out′ r
+pub printed-report : (b : Bytes) {out out′ : Bytes} {r : ℕ} → length b ≤ 65536 → Printed out (report b) out′ r
+    → Printed out (output b) out′ r
 unfolding output
 printed-report b h q = rw (le-ltb 65536 (length b) h) q

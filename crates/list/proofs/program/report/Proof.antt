@@ -15,6 +15,7 @@ use Rattle.judge.specs.declared.Change.the-variants.{Objects, Members, Appointm
 use Rattle.judge.proofs.Tabled.{changed-is}
 use Rattle.list.proofs.Reporting.{Reporting, reporting-start, reporting-record, reporting-torn, reporting-end}
 use Rattle.list.proofs.Reporting.{Kept, Next, next-refused, next-made, next-moved}
+use Rattle.text.specs.Text.{Bytes}
 use borrow.Author.Needs.{needs}
 use Rattle.list.proofs.program.report.Statement.{statement}
 use Rattle.list.proofs.program.report.Tie as tie
@@ -28,19 +29,23 @@ abbrev μ-loop : tie.MeasureT-loop
 abbrev sortsOf : Policy → List ℕ
 sortsOf p = p .sorts
 
+-- The input, where a record has been found.
+abbrev input-of : tie.After-known-told Inv-loop μ-loop → Bytes
+input-of c = now (c .before .before .before .before .before .before .before .before .before .before .args .input)
+
 -- The record that the reader found, and what is known of it.
 record-at : (c : tie.After-known-told Inv-loop μ-loop)
-    → stepAt (now (c .before .before .before .before .before .before .before .before .before .before .args .input)) (c .before .before .before .before .loop .at)
+    → stepAt (input-of c) (c .before .before .before .before .loop .at)
     ≡ Record (c .before .start .given .0 .0) (c .before .start .given .0 .1 .0) (c .before .start .given .0 .1 .1 .0)
 record-at c = sym (c .before .before .before .read-at .ensures) ∙ c .before .start .given .1
 
 found : (c : tie.After-known-told Inv-loop μ-loop)
-    → Found (now (c .before .before .before .before .before .before .before .before .before .before .args .input)) (c .before .before .before .before .loop .at)
+    → Found (input-of c) (c .before .before .before .before .loop .at)
     (c .before .start .given .0 .0) (c .before .start .given .0 .1 .0) (c .before .start .given .0 .1 .1 .0)
 found c = step-record _ _ _ _ _ (record-at c)
 
 -- The input is a slice, and no longer than a slice can be.
-short : (c : tie.After-known-told Inv-loop μ-loop) → length (now (c .before .before .before .before .before .before .before .before .before .before .args .input)) < 2 ^ 64
+short : (c : tie.After-known-told Inv-loop μ-loop) → length (input-of c) < 2 ^ 64
 short c = search needs
 
 initial-requires : tie.Need-initial-requires Inv-loop μ-loop
@@ -50,8 +55,10 @@ masks-of-requires : tie.Need-masks-of-requires Inv-loop μ-loop
 masks-of-requires c κs = search needs
 
 loop-holds : tie.Need-loop-holds Inv-loop μ-loop
-loop-holds c =
-    (reporting-start _ _ _ (c .before .before .initial .ensures), record { masks = c .masks-of .ensures _ refl; sized = search (needs, sized-of-lengths) })
+loop-holds c = (
+  reporting-start _ _ _ (c .before .before .initial .ensures),
+  record { masks = c .masks-of .ensures _ refl; sized = search (needs, sized-of-lengths) },
+)
 
 read-at-requires : tie.Need-read-at-requires Inv-loop μ-loop
 read-at-requires c κs = search needs
@@ -81,13 +88,19 @@ put-line-requires : tie.Need-put-line-requires Inv-loop μ-loop
 put-line-requires c κs = search needs
 
 sub-request-of : tie.Need-sub-request-of Inv-loop μ-loop
-sub-request-of c = omega (arith, found (c .before .before .before .before .before .before .before .before .before .before .before .before .before))
+sub-request-of c =
+    let told = c .before .before .before .before .before .before .before .before .before .before .before .before .before in
+    omega (arith, found told)
 
 part-request-of-start : tie.Need-part-request-of-start Inv-loop μ-loop
-part-request-of-start c = omega (arith, found (c .before .before .before .before .before .before .before .before .before .before .before .before .before))
+part-request-of-start c =
+    let told = c .before .before .before .before .before .before .before .before .before .before .before .before .before in
+    omega (arith, found told)
 
 part-request-of-end : tie.Need-part-request-of-end Inv-loop μ-loop
-part-request-of-end c = omega (arith, found (c .before .before .before .before .before .before .before .before .before .before .before .before .before))
+part-request-of-end c =
+    let told = c .before .before .before .before .before .before .before .before .before .before .before .before .before in
+    omega (arith, found told)
 
 request-of-requires : tie.Need-request-of-requires Inv-loop μ-loop
 request-of-requires c κs = search needs
@@ -134,7 +147,9 @@ add-index c =
     record { fits = omega (arith, short told, found told, told .before .before .before .before .loop .inv .0 .index-low) }
 
 loop-less : tie.Need-loop-less Inv-loop μ-loop
-loop-less c = omega (arith, found (c .before .before .before .before .before .before .before .before .before .before .before .before .before))
+loop-less c =
+    let told = c .before .before .before .before .before .before .before .before .before .before .before .before .before in
+    omega (arith, found told)
 
 loop-again : tie.Need-loop-again Inv-loop μ-loop
 loop-again c =
