@@ -63,7 +63,7 @@ rows =
     (MAKE 64 64 2 0, no 4) ∷
     (MAKE 8 8 2 0, no 4) ∷
     (USE 6 6 2, no 4) ∷
-    -- Off the sheet: each number outside its table, and each value that is none.
+    -- Off the sheet: each number outside its table, and each value that is none; the places of MAKE and APPOINT are in `Sample.further`.
     (MAKE 1 8 0 0, no 5) ∷
     (MAKE 1 8 4 0, no 5) ∷
     (MAKE 1 8 2 64, no 5) ∷
