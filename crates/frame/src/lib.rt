@@ -1,6 +1,7 @@
 // Records in bytes: the fields that every record begins with, and the reader that finds one record after the other.
 mod reading;
 
+pub use reading::read_after;
 pub use reading::read_at;
 ghost use mathlib.Core.Path.{_≡_};
 ghost use Rattle.frame.specs.Fields.{byte, littleEndian, lengthField, kindField};

@@ -80,3 +80,10 @@ pub fn read_at(bytes: &[u8], at: usize) -> Step
 {
     Reader::new(bytes, at).next()
 }
+
+// Where a reader goes on after a position.
+pub fn read_after(bytes: &[u8], at: usize) -> usize
+    ensures { λ r. ⌜ r ≡ placeAfter at (stepAt (now (bytes .entry)) at) ⌝ }
+{
+    Reader::new(bytes, at).after().at
+}

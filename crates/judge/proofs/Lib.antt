@@ -1,3 +1,2 @@
--- The laws by which the judge's code follows the rules: the order of the checks, and the tables after a request.
+-- The laws by which the judge's code follows the rules: the order of the checks.
 pub mod Ordered
-pub mod Tabled

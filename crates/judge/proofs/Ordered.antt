@@ -86,19 +86,25 @@ pass {p} {b} {u} {q} {n} k e =
 
 -- ---- The verdict
 
-module _ (p : Policy) (b : List ℕ) (u : ℕ) (q : Request) (e : u ≡ sender b) (f : q ≡ request b) where
-  table : verdict p b ≡ first (tests p b u q) refusals (done p u q)
-  unfolding verdict verdictOn first
-  table = rw (e, f)
+module _ (p : Policy) (b : List ℕ) (u : ℕ) (q : Request) where
+  table : verdictOn p b u q ≡ first (tests p b u q) refusals (done p u q)
+  unfolding verdictOn first
+  table = refl
 
   -- The first test that holds refuses.
   pub verdict-stops : (n : ℕ) → n < 12 → Passed p b u q n → getD (tests p b u q) n false ≡ true
-      → getD refusals n (done p u q) ≡ verdict p b
+      → getD refusals n (done p u q) ≡ verdictOn p b u q
   verdict-stops n l k t = sym (table ∙ first-at (tests p b u q) refusals (done p u q) n l (k .none) t)
 
   -- Where no test holds the request is done.
-  pub verdict-done : Passed p b u q 12 → done p u q ≡ verdict p b
+  pub verdict-done : Passed p b u q 12 → done p u q ≡ verdictOn p b u q
   verdict-done k = sym (table ∙ first-none (tests p b u q) refusals (done p u q) (k .none))
+
+-- That of the record's own sender and request is the verdict on the record.
+pub verdict-of : (p : Policy) (b : List ℕ) {u : ℕ} {q : Request} {v : Verdict} → u ≡ sender b → q ≡ request b → v ≡ verdictOn p b u q
+    → v ≡ verdict p b
+unfolding verdict
+verdict-of p b e f g = rw (g, e, f)
 
 -- ---- The answer
 

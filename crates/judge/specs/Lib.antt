@@ -1,3 +1,2 @@
--- How the judge's code puts its answer together, and what a request does to each table.
+-- How the judge's code puts its answer together.
 pub mod Answering
-pub mod ByTable

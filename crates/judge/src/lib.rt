@@ -2,7 +2,7 @@
 ghost use mathlib.Core.Path.{_≡_};
 ghost use Rattle.reach.specs.Tables.{Sized};
 ghost use Rattle.reach.specs.Surveys.{Whose};
-ghost use Rattle.rules.specs.Judging.{judge, verdict, OneAnswer};
+ghost use Rattle.rules.specs.Judging.{judge, verdictOn, OneAnswer};
 ghost use Rattle.judge.specs.Answering.{answered};
 
 mod doing;
@@ -12,12 +12,7 @@ use checks::no_authority;
 use checks::orphan;
 use checks::permitting_rule;
 use doing::after;
-pub use doing::appointments_after;
-pub use doing::change_of;
 use doing::done;
-pub use doing::members_after;
-pub use doing::rules_after;
-pub use doing::sorts_after;
 use forms::absent;
 use forms::already_so;
 use forms::misfit;
@@ -42,16 +37,8 @@ use reach::masks_of;
 use reach::rule_at;
 use rows::rows_for;
 use rules::Answer;
+use rules::Request;
 use rules::Verdict;
-
-// What a request changes, were it accepted. MAKE changes two tables, the sorts and the members; any other request one or none.
-pub enum Change {
-    Objects,
-    Members,
-    Appointments,
-    Rules,
-    Nothing,
-}
 
 // A policy, and a verdict on it.
 fn answer(p: Policy, v: Verdict) -> Answer
@@ -63,17 +50,19 @@ fn answer(p: Policy, v: Verdict) -> Answer
     }
 }
 
-// The verdict on one record, from the tables of a policy: that of the first check that applies, or else done. This is the one place that
-// knows the order of the checks.
-pub fn verdict(
+// The verdict on one record, sent by u, that asks for q, from the tables of a policy: that of the first check that applies, or else done.
+// This is the one place that knows the order of the checks.
+fn verdict(
     members: &[u64; 64],
     m: Masks,
     appointments: [Appointment; 32],
     rules: [AccessRule; 64],
     bytes: &[u8],
+    u: u8,
+    q: Request,
 ) -> Verdict
     ensures { λ r. ⌜ Whose (now (members .entry)) m (λ p.
-        Sized p → p .appointments ≡ appointments → p .rules ≡ rules → r ≡ verdict p (now (bytes .entry))) ⌝ }
+        Sized p → p .appointments ≡ appointments → p .rules ≡ rules → r ≡ verdictOn p (now (bytes .entry)) u q) ⌝ }
 {
     if torn(bytes) {
         return Verdict::Torn;
@@ -84,11 +73,9 @@ pub fn verdict(
     if misfit(bytes) {
         return Verdict::Misfit;
     }
-    let u = byte(bytes, 4);
     if stranger(m, u) {
         return Verdict::Stranger;
     }
-    let q = request_of(bytes);
     if off_the_sheet(q) {
         return Verdict::OffTheSheet;
     }
@@ -130,9 +117,11 @@ pub fn judge(p: Policy, bytes: &[u8]) -> Answer
     let m = masks_of(sorts);
     let appointments = p.appointments;
     let rules = p.rules;
-    let v = verdict(&p.members, m, appointments, rules, bytes);
+    let u = byte(bytes, 4);
+    let q = request_of(bytes);
+    let v = verdict(&p.members, m, appointments, rules, bytes, u, q);
     if code_of(v) == 0 {
-        return answer(after(p, request_of(bytes)), v);
+        return answer(after(p, q), v);
     }
     answer(p, v)
 }

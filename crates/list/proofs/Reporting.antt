@@ -1,4 +1,4 @@
--- What the loop of `report` keeps: the lines so far stand in the buffer, and those to come are of the answers from the current policy and
+-- What the loop of `report_from` keeps: the lines so far stand in the buffer, and those to come are of the answers from the current policy and
 -- position on. Each record moves one answer over; a torn place is the last; at the end none is to come.
 use mathlib.Core.Path.{_≡_, refl, sym, ap, ap₂, subst, _∙_}
 use mathlib.Core.List.{List, [], _∷_, _++_, append-assoc, append-nil}
@@ -8,23 +8,14 @@ use lib.ListN.{length, take, drop, length-append}
 use borrow.Author.Tests.{lt-ltb, le-ltb}
 use Rattle.reach.specs.declared.Policy.{Policy}
 use Rattle.reach.specs.Tests.{_⇒_∥_}
-use Rattle.reach.specs.declared.Masks.{Masks}
-use Rattle.reach.specs.Tables.{Sized, initial}
-use Rattle.reach.specs.Surveys.{MasksOf}
+use Rattle.reach.specs.Tables.{initial}
 use Rattle.frame.specs.declared.Step.the-variants.{Record, Torn, End}
-use Rattle.frame.specs.Reading.{stepAt, recordBytes, recordsFrom, tornFrom}
+use Rattle.frame.specs.Reading.{stepAt, placeAfter, recordBytes, recordsFrom, tornFrom}
 use Rattle.frame.proofs.Steps.{Found, step-record, step-torn}
 use Rattle.frame.proofs.Records.{records-of-record, torn-of-record, records-of-torn, torn-of-torn, records-of-end, torn-of-end}
-use Rattle.reach.proofs.Sorts.{masks-same}
-use Rattle.rules.specs.declared.Verdict.{Verdict}
 use Rattle.rules.specs.declared.Answer.{Answer}
-use Rattle.rules.specs.declared.Request.{Request}
-use Rattle.rules.specs.Records.{request}
-use Rattle.rules.specs.Doing.{after}
-use Rattle.rules.specs.Judging.{codeOf, citedOf, verdict, judge, numbersOf, answers}
-use Rattle.rules.proofs.Reading.{sized-after}
-use Rattle.judge.proofs.Ordered.{judge-accepts, judge-refuses}
-use Rattle.rules.proofs.Table.{judge-verdict, answers-none, answers-next}
+use Rattle.rules.specs.Judging.{codeOf, citedOf, judge, numbersOf, answers}
+use Rattle.rules.proofs.Table.{answers-none, answers-next}
 use Rattle.text.specs.Text.{Bytes, line, lines, tornPlace, Wrote, Printed}
 use Rattle.list.specs.Report.{answersFrom, report, tooLong, output}
 use Rattle.text.proofs.Writing.{wrote-none, wrote-as, printed-of-wrote}
@@ -49,21 +40,25 @@ module _ (p : Policy) (b : Bytes) (at : ℕ) where
 
 -- ---- The loop
 
-module _ (b out₀ : Bytes) where
+module _ (first : Policy) (b out₀ : Bytes) where
   pub record Reporting (out : Bytes) (p : Policy) (at index n : ℕ) : Type 0 where
     pub so-far : List (ℕ × ℕ)
     pub count : length so-far ≡ index
     pub wrote : Wrote out₀ 0 (lines 0 so-far) out n
-    pub to-come : so-far ++ answersFrom p b at ≡ answersFrom initial b 0
+    pub to-come : so-far ++ answersFrom p b at ≡ answersFrom first b 0
     pub index-low : index ≤ at
     pub within : at ≤ length b
 
-  pub reporting-start : (p : Policy) → p ≡ initial → Reporting out₀ p 0 0 0
-  reporting-start p e = record {
+  -- The text that is to be printed.
+  abbrev Whole : Bytes → ℕ → Type 0
+  Whole out r = Printed out₀ (lines 0 (answersFrom first b 0)) out r
+
+  pub reporting-start : Reporting out₀ first 0 0 0
+  reporting-start = record {
     so-far = [];
     count = refl;
     wrote = wrote-as (sym (lines-none 0)) (wrote-none out₀ 0);
-    to-come = rw e;
+    to-come = refl;
     index-low = zero-le;
     within = zero-le;
   }
@@ -76,83 +71,51 @@ module _ (b out₀ : Bytes) where
         wrote-next-line (s .so-far) code cited (s .wrote)
         (subst (λ (k : ℕ). Wrote out n (line k code cited) out′ r) (sym (s .count)) w)
 
-    -- All that is written is the report, once no answer is to come.
-    whole : {out′ : Bytes} {r : ℕ} (l : List (ℕ × ℕ)) → l ≡ answersFrom initial b 0 → Wrote out₀ 0 (lines 0 l) out′ r
-        → Printed out₀ (report b) out′ r
-    unfolding report
+    -- All that is written is the text, once no answer is to come.
+    whole : {out′ : Bytes} {r : ℕ} (l : List (ℕ × ℕ)) → l ≡ answersFrom first b 0 → Wrote out₀ 0 (lines 0 l) out′ r → Whole out′ r
     whole l e w = printed-of-wrote (wrote-as (ap (lines 0) e) w)
 
-    pub reporting-record : {out′ : Bytes} {r start len next : ℕ} (v : Verdict) (p′ : Policy) (code cite : ℕ)
+    pub reporting-record : {out′ : Bytes} {r start len next at′ : ℕ} (a : Answer) (code cite : ℕ)
         → stepAt b at ≡ Record start len next
-        → v ≡ verdict p (take (next - start) (drop start b))
-        → p′ ≡ judge p (take (next - start) (drop start b)) .policy
-        → code ≡ codeOf v → cite ≡ citedOf v
+        → a ≡ judge p (take (next - start) (drop start b))
+        → code ≡ codeOf (a .verdict) → cite ≡ citedOf (a .verdict)
         → Wrote out n (line index code cite) out′ r
-        → Reporting out′ p′ next (index + 1) r
-    reporting-record {start = start} {len} {next} v p′ code cite e j h f g w =
+        → at′ ≡ placeAfter at (stepAt b at)
+        → Reporting out′ (a .policy) at′ (index + 1) r
+    reporting-record {start = start} {len} {next} {at′} a code cite e j f g w k =
         let found : Found b at start len next = step-record b at start len next e in
         let long : next - start ≡ len = omega (arith, found .ends) in
-        let said : v ≡ judge p (take (next - start) (drop start b)) .verdict = j ∙ sym (judge-verdict p _) in
+        let after : at′ ≡ next = k ∙ ap (placeAfter at) e in
         record {
           so-far = s .so-far ++ ((code, cite) ∷ []);
           count = simp (length-append, s .count);
           wrote = next-line code cite w;
           to-come =
-              rw (append-assoc, f, g, said, h, long)
+              rw (append-assoc, f, g, j, long, after)
               (ap (λ (l : List (ℕ × ℕ)). s .so-far ++ l) (sym (answers-of-record p b at start len next e)) ∙ s .to-come);
           index-low = omega (arith, s .index-low, found .long);
-          within = found .within;
+          within = omega (arith, found .within);
         }
 
-    pub reporting-torn : {out′ : Bytes} {r : ℕ} → stepAt b at ≡ Torn → Wrote out n (line index 1 255) out′ r
-        → Printed out₀ (report b) out′ r
+    pub reporting-torn : {out′ : Bytes} {r : ℕ} → stepAt b at ≡ Torn → Wrote out n (line index 1 255) out′ r → Whole out′ r
     reporting-torn e w =
         whole
         (s .so-far ++ (tornPlace ∷ []))
         (ap (λ (l : List (ℕ × ℕ)). s .so-far ++ l) (sym (answers-of-torn p b at e)) ∙ s .to-come)
         (next-line 1 255 w)
 
-    pub reporting-end : stepAt b at ≡ End → Printed out₀ (report b) out n
+    pub reporting-end : stepAt b at ≡ End → Whole out n
     reporting-end e =
         whole
         (s .so-far)
         (sym (append-nil (s .so-far)) ∙ ap (λ (l : List (ℕ × ℕ)). s .so-far ++ l) (sym (answers-of-end p b at e)) ∙ s .to-come)
         (s .wrote)
 
--- ---- What is known of the policy from record to record
-
--- Its masks, which are worked anew where the sorts have changed, and that its tables have their sizes.
-pub record Kept (p : Policy) (m : Masks) : Type 0 where
-  pub masks : MasksOf p m
-  pub sized : Sized p
-
--- The policy after a record, and its masks.
-pub record Next (p : Policy) (b : Bytes) (n : Policy) (m : Masks) : Type 0 where
-  pub policy : n ≡ judge p b .policy
-  pub kept : Kept n m
-
-module _ (p : Policy) (b : Bytes) {v : Verdict} {code : ℕ} (e : v ≡ verdict p b) (f : code ≡ codeOf v) {m : Masks} (k : Kept p m) where
-  -- The record is refused: nothing has changed.
-  pub next-refused : {n : Policy} {o : Masks} → (code ≡ 0 → ⊥) → n ≡ p → o ≡ m → Next p b n o
-  next-refused {n} {o} z g h = record {
-    policy = g ∙ ap (λ (a : Answer). a .policy) (judge-refuses p b e f z);
-    kept = subst (λ (r : Policy). Kept r o) (sym g) (subst (Kept p) (sym h) k);
-  }
-
-  module _ (z : code ≡ 0) {q : Request} (h : q ≡ request b) {n : Policy} (g : n ≡ after p q) where
-    next-accepted : {o : Masks} → MasksOf n o → Next p b n o
-    next-accepted o = record {
-      policy = g ∙ ap (λ (a : Answer). a .policy) (judge-accepts p b e f z h);
-      kept = record { masks = o; sized = subst Sized (sym g) (sized-after p (k .sized) q) };
-    }
-
-    -- It is accepted, and the masks are those of the sorts after it.
-    pub next-made : {o : Masks} (w : Masks) → MasksOf n w → o ≡ w → Next p b n o
-    next-made w i j = next-accepted (subst (MasksOf n) (sym j) i)
-
-    -- It is accepted, and the sorts are those of before.
-    pub next-moved : {o : Masks} → n .sorts ≡ p .sorts → o ≡ m → Next p b n o
-    next-moved i j = next-accepted (subst (MasksOf n) (sym j) (masks-same p n i (k .masks)))
+-- From the founding on it is the report.
+pub printed-founding : (p : Policy) (b : Bytes) {out out′ : Bytes} {r : ℕ} → p ≡ initial
+    → Printed out (lines 0 (answersFrom p b 0)) out′ r → Printed out (report b) out′ r
+unfolding report
+printed-founding p b e q = rw e at q
 
 -- ---- The limit on the input
 

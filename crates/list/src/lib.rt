@@ -4,6 +4,7 @@ mod run;
 
 pub use program::output;
 pub use program::report;
+pub use program::report_from;
 use reach::Policy;
 pub use run::run_from;
 pub use run::run_list;

@@ -1,30 +1,23 @@
 // What the program prints for its input. A buffer that is too small gets as much of the text as it has room for.
-ghost use Rattle.text.specs.Text.{Printed};
-ghost use Rattle.list.specs.Report.{report, output};
-use forms::request_of;
+ghost use Rattle.frame.specs.Reading.{recordsFrom};
+ghost use Rattle.text.specs.Text.{lines, Printed};
+ghost use Rattle.list.specs.Report.{answersFrom, report, output};
+ghost use Rattle.list.specs.Demand.{FoundingDemand3};
 use frame::Step;
+use frame::read_after;
 use frame::read_at;
-use judge::Change;
-use judge::appointments_after;
-use judge::change_of;
 use judge::cited_of;
 use judge::code_of;
-use judge::members_after;
-use judge::rules_after;
-use judge::sorts_after;
-use judge::verdict;
+use judge::judge;
 use reach::Policy;
-use reach::masks_of;
 use text::put_bytes;
 use text::put_line;
 
-// A line for each record of the input, judged from the founding on, and one for a torn place.
-pub fn report(input: &[u8], out: &mut [u8]) -> usize
-    ensures { λ r. ⌜ Printed (now (out .entry)) (report (now (input .entry))) (now (out .exit)) r ⌝ }
+// A line for each record of the input, the first judged on p and each later one on what the judge handed back, and one for a torn place.
+pub fn report_from(p: Policy, input: &[u8], out: &mut [u8]) -> usize
+    ensures { λ r. ⌜ Printed (now (out .entry)) (lines 0 (answersFrom p (now (input .entry)) 0)) (now (out .exit)) r ⌝ }
 {
-    let mut p = Policy::initial();
-    let founding = p.sorts;
-    let mut m = masks_of(founding);
+    let mut current = p;
     let mut at: usize = 0;
     let mut index: usize = 0;
     let mut n: usize = 0;
@@ -35,40 +28,11 @@ pub fn report(input: &[u8], out: &mut [u8]) -> usize
                 length: _,
                 next,
             } => {
-                let appointments = p.appointments;
-                let rules = p.rules;
-                let v = verdict(&p.members, m, appointments, rules, &input[start..next]);
-                let code = code_of(v);
-                n = put_line(out, n, index, code, cited_of(v));
-                if code == 0 {
-                    let q = request_of(&input[start..next]);
-                    match change_of(q) {
-                        Change::Objects => {
-                            let sorts = p.sorts;
-                            let made = sorts_after(sorts, q);
-                            p.sorts = made;
-                            let members = p.members;
-                            let moved = members_after(members, q);
-                            p.members = moved;
-                            m = masks_of(made);
-                        }
-                        Change::Members => {
-                            let members = p.members;
-                            let moved = members_after(members, q);
-                            p.members = moved;
-                        }
-                        Change::Appointments => {
-                            let appointed = appointments_after(appointments, q);
-                            p.appointments = appointed;
-                        }
-                        Change::Rules => {
-                            let ruled = rules_after(rules, q);
-                            p.rules = ruled;
-                        }
-                        Change::Nothing => {}
-                    }
-                }
-                at = next;
+                let answer = judge(current, &input[start..next]);
+                let verdict = answer.verdict;
+                n = put_line(out, n, index, code_of(verdict), cited_of(verdict));
+                current = answer.policy;
+                at = read_after(input, at);
                 index = index + 1;
             }
             Step::Torn => return put_line(out, n, index, 1, 255),
@@ -77,9 +41,18 @@ pub fn report(input: &[u8], out: &mut [u8]) -> usize
     }
 }
 
+// The same from the founding on; and of the records that are read demand 3 holds, whole.
+pub fn report(input: &[u8], out: &mut [u8]) -> usize
+    ensures { λ r. ⌜ Printed (now (out .entry)) (report (now (input .entry))) (now (out .exit)) r ⌝ }
+    ensures { λ r. ⌜ FoundingDemand3 (recordsFrom (now (input .entry)) 0) ⌝ }
+{
+    report_from(Policy::initial(), input, out)
+}
+
 // The report, for an input of at most 65,536 bytes; for a longer one the line that says so.
 pub fn output(input: &[u8], out: &mut [u8]) -> usize
     ensures { λ r. ⌜ Printed (now (out .entry)) (output (now (input .entry))) (now (out .exit)) r ⌝ }
+    ensures { λ r. ⌜ FoundingDemand3 (recordsFrom (now (input .entry)) 0) ⌝ }
 {
     if 65536 < input.len() {
         return put_bytes(out, 0, b"too long\n");

@@ -10,7 +10,7 @@ use Rattle.rules.specs.declared.Answer.{Answer}
 use Rattle.rules.specs.Judging.{judge, verdict, OneAnswer}
 use Rattle.rules.proofs.Bounded.{one-answer}
 use Rattle.judge.specs.Answering.{answered}
-use Rattle.judge.proofs.Ordered.{judge-accepts, judge-refuses}
+use Rattle.judge.proofs.Ordered.{verdict-of, judge-accepts, judge-refuses}
 use borrow.Author.Needs.{needs}
 use Rattle.judge.proofs.judge.Statement.{statement}
 use Rattle.judge.proofs.judge.Tie as tie
@@ -24,58 +24,41 @@ sized : (c : tie.Start) → Sized (c .args .t1)
 sized c = search (needs, sized-of-lengths)
 
 judged : (c : tie.After-verdict)
-    → let s = c .before .before .before .before .before .before .before .before in
+    → let s = c .before .before .before .before .before .before .before .before .before .before in
     c .verdict .result ≡ verdict (s .args .t1) (now (s .args .bytes))
 judged c =
-    let s = c .before .before .before .before .before .before .before .before in
-    c .verdict .ensures (s .args .t1) (record { rows = refl; masks = c .before .before .before .before .before .masks-of .ensures _ refl })
-    (sized s) refl refl
+    let asked = c .before .before .before in
+    let sent = asked .before in
+    let masks = sent .before .before .before in
+    let s = masks .before .before .before in
+    verdict-of _ _ (sent .byte .ensures) (asked .request-of .ensures)
+    (c .verdict .ensures (s .args .t1) (record { rows = refl; masks = masks .masks-of .ensures _ refl }) (sized s) refl refl)
 
 returns : tie.Need-returns
 returns c =
-    let d = c .before .before .before .before in
+    let d = c .before .before .before in
     both _ _
     (c .answer .ensures
     ∙ ap (λ (n : Policy). answered n (d .before .verdict .result)) (c .before .after .ensures)
-    ∙ judge-accepts _ _ (judged (d .before)) (d .code-of .ensures) (c .before .before .before .if1 .taken)
-    (c .before .before .request-of .ensures))
+    ∙ judge-accepts _ _ (judged (d .before)) (d .code-of .ensures) (c .before .before .if1 .taken)
+    (d .before .before .before .before .request-of .ensures))
 
 returns-2 : tie.Need-returns-2
 returns-2 c =
     let d = c .before .before in
     both _ _ (c .answer2 .ensures ∙ judge-refuses _ _ (judged (d .before)) (d .code-of .ensures) (c .before .if1 .left))
 
-masks-of-requires : tie.Need-masks-of-requires
-masks-of-requires c κs = search needs
-
-verdict-requires : tie.Need-verdict-requires
-verdict-requires c κs = search needs
-
-code-of-requires : tie.Need-code-of-requires
-code-of-requires c κs = search needs
-
-request-of-requires : tie.Need-request-of-requires
-request-of-requires c κs = search needs
-
-after-requires : tie.Need-after-requires
-after-requires c κs = search needs
-
-answer-requires : tie.Need-answer-requires
-answer-requires c κs = search needs
-
-answer-requires-2 : tie.Need-answer-requires-2
-answer-requires-2 c κs = search needs
-
 pub judge-spec : {M : Type 1} → statement M
 judge-spec =
     tie.close
     (tie.spec
-    masks-of-requires
-    verdict-requires
-    code-of-requires
-    request-of-requires
-    after-requires
-    answer-requires
+    (λ c κs. search needs)
+    (λ c κs. search needs)
+    (λ c κs. search needs)
+    (λ c κs. search needs)
+    (λ c κs. search needs)
+    (λ c κs. search needs)
+    (λ c κs. search needs)
     returns
-    answer-requires-2
+    (λ c κs. search needs)
     returns-2)

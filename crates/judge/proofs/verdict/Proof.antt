@@ -1,14 +1,11 @@
 -- The checks in their order, of every policy with the tables that are lent. `fact-n` is what check n answers, as the rules have it;
 -- `passed-n` that the first n do not apply; so each refusal is that of the first check that applies, and what passes all twelve is done.
 use mathlib.Core.Path.{_≡_, refl, sym, ap, _∙_}
-use Prim.Native.Nat.{ℕ}
 use native.Mathlib.Omega.{arith}
 use denote.Ref.{now}
 use Rattle.reach.specs.declared.Policy.{Policy}
 use Rattle.reach.specs.Tables.{Sized}
 use Rattle.reach.specs.Surveys.{Lent}
-use Rattle.rules.specs.declared.Request.{Request}
-use Rattle.rules.specs.Records.{sender, request}
 use Rattle.rules.specs.Refusals.{torn, unknown, misfit, stranger, offTheSheet, absent, wrongSort, alreadySo}
 use Rattle.rules.specs.Refusals.{noAuthority, ownGain, handOver, orphan}
 use Rattle.rules.specs.Judging.{doneBy}
@@ -41,10 +38,10 @@ abbrev back-3 : tie.Else3 → tie.Else2
 back-3 c = c .before .before
 
 abbrev back-4 : tie.Else4 → tie.Else3
-back-4 c = c .before .before .before
+back-4 c = c .before .before
 
 abbrev back-5 : tie.Else5 → tie.Else4
-back-5 c = c .before .before .before
+back-5 c = c .before .before
 
 abbrev back-6 : tie.Else6 → tie.Else5
 back-6 c = c .before .before .before .before .before .before
@@ -100,51 +97,6 @@ start-11 c = start-10 (back-11 c)
 abbrev start-12 : tie.Else12 → tie.Start
 start-12 c = start-11 (back-12 c)
 
-abbrev four-5 : tie.Else5 → tie.Else4
-four-5 c = back-5 c
-
-abbrev four-6 : tie.Else6 → tie.Else4
-four-6 c = four-5 (back-6 c)
-
-abbrev four-7 : tie.Else7 → tie.Else4
-four-7 c = four-6 (back-7 c)
-
-abbrev four-8 : tie.Else8 → tie.Else4
-four-8 c = four-7 (back-8 c)
-
-abbrev four-9 : tie.Else9 → tie.Else4
-four-9 c = four-8 (back-9 c)
-
-abbrev four-10 : tie.Else10 → tie.Else4
-four-10 c = four-9 (back-10 c)
-
-abbrev four-11 : tie.Else11 → tie.Else4
-four-11 c = four-10 (back-11 c)
-
-abbrev four-12 : tie.Else12 → tie.Else4
-four-12 c = four-11 (back-12 c)
-
-abbrev five-6 : tie.Else6 → tie.Else5
-five-6 c = back-6 c
-
-abbrev five-7 : tie.Else7 → tie.Else5
-five-7 c = five-6 (back-7 c)
-
-abbrev five-8 : tie.Else8 → tie.Else5
-five-8 c = five-7 (back-8 c)
-
-abbrev five-9 : tie.Else9 → tie.Else5
-five-9 c = five-8 (back-9 c)
-
-abbrev five-10 : tie.Else10 → tie.Else5
-five-10 c = five-9 (back-10 c)
-
-abbrev five-11 : tie.Else11 → tie.Else5
-five-11 c = five-10 (back-11 c)
-
-abbrev five-12 : tie.Else12 → tie.Else5
-five-12 c = five-11 (back-12 c)
-
 abbrev six-7 : tie.Else7 → tie.Else6
 six-7 c = back-7 c
 
@@ -153,6 +105,12 @@ six-8 c = six-7 (back-8 c)
 
 abbrev six-9 : tie.Else9 → tie.Else6
 six-9 c = six-8 (back-9 c)
+
+abbrev five-9 : tie.Else9 → tie.Else5
+five-9 c = back-6 (six-9 c)
+
+abbrev four-9 : tie.Else9 → tie.Else4
+four-9 c = back-5 (five-9 c)
 
 abbrev nine-10 : tie.Else10 → tie.Else9
 nine-10 c = back-10 c
@@ -163,96 +121,83 @@ nine-11 c = nine-10 (back-11 c)
 abbrev nine-12 : tie.Else12 → tie.Else9
 nine-12 c = nine-11 (back-12 c)
 
-abbrev sender-of : tie.Else4 → ℕ
-sender-of c = c .before .before .byte .result
-
-abbrev request-of : tie.Else5 → Request
-request-of c = c .before .before .request-of .result
-
-sent : (c : tie.Else4) → sender-of c ≡ sender (now (start-4 c .args .bytes))
-sent c = c .before .before .byte .ensures
-
-asked : (c : tie.Else5) → request-of c ≡ request (now (start-5 c .args .bytes))
-asked c = c .before .before .request-of .ensures
-
 -- ---- Check 1
 
 fact-1 : (c : tie.After-torn) → torn (now (c .before .before .args .bytes)) ≡ c .torn .result
 fact-1 c = sym (c .torn .ensures)
 
-passed-1 : (c : tie.Else1) (p : Policy) (u : ℕ) (q : Request) → Passed p (now (start-1 c .args .bytes)) u q 1
-passed-1 c p u q = pass pass-start (fact-1 (c .before) ∙ c .if1 .left)
+passed-1 : (c : tie.Else1) (p : Policy) → Passed p (now (start-1 c .args .bytes)) (start-1 c .args .u) (start-1 c .args .q) 1
+passed-1 c p = pass pass-start (fact-1 (c .before) ∙ c .if1 .left)
 
 returns : tie.Need-returns
-returns c = λ p l s a r. verdict-stops p _ _ _ refl refl 0 (omega arith) pass-start (fact-1 (c .before) ∙ c .if1 .taken)
+returns c = λ p l s a r. verdict-stops p _ _ _ 0 (omega arith) pass-start (fact-1 (c .before) ∙ c .if1 .taken)
 
 -- ---- Check 2
 
 fact-2 : (c : tie.After-unknown) → unknown (now (start-1 (c .before) .args .bytes)) ≡ c .unknown .result
 fact-2 c = sym (c .unknown .ensures)
 
-passed-2 : (c : tie.Else2) (p : Policy) (u : ℕ) (q : Request) → Passed p (now (start-2 c .args .bytes)) u q 2
-passed-2 c p u q = pass (passed-1 (back-2 c) p u q) (fact-2 (c .before) ∙ c .if2 .left)
+passed-2 : (c : tie.Else2) (p : Policy) → Passed p (now (start-2 c .args .bytes)) (start-2 c .args .u) (start-2 c .args .q) 2
+passed-2 c p = pass (passed-1 (back-2 c) p) (fact-2 (c .before) ∙ c .if2 .left)
 
 returns-2 : tie.Need-returns-2
 returns-2 c =
     λ p l s a r.
-    verdict-stops p _ _ _ refl refl 1 (omega arith) (passed-1 (c .before .before) p _ _)
-    (fact-2 (c .before) ∙ c .if2 .taken)
+    verdict-stops p _ _ _ 1 (omega arith) (passed-1 (c .before .before) p) (fact-2 (c .before) ∙ c .if2 .taken)
 
 -- ---- Check 3
 
 fact-3 : (c : tie.After-misfit) → misfit (now (start-2 (c .before) .args .bytes)) ≡ c .misfit .result
 fact-3 c = sym (c .misfit .ensures)
 
-passed-3 : (c : tie.Else3) (p : Policy) (u : ℕ) (q : Request) → Passed p (now (start-3 c .args .bytes)) u q 3
-passed-3 c p u q = pass (passed-2 (back-3 c) p u q) (fact-3 (c .before) ∙ c .if3 .left)
+passed-3 : (c : tie.Else3) (p : Policy) → Passed p (now (start-3 c .args .bytes)) (start-3 c .args .u) (start-3 c .args .q) 3
+passed-3 c p = pass (passed-2 (back-3 c) p) (fact-3 (c .before) ∙ c .if3 .left)
 
 returns-3 : tie.Need-returns-3
 returns-3 c =
     λ p l s a r.
-    verdict-stops p _ _ _ refl refl 2 (omega arith) (passed-2 (c .before .before) p _ _)
-    (fact-3 (c .before) ∙ c .if3 .taken)
+    verdict-stops p _ _ _ 2 (omega arith) (passed-2 (c .before .before) p) (fact-3 (c .before) ∙ c .if3 .taken)
 
 -- ---- Check 4
 
-fact-4 : (c : tie.After-stranger) (p : Policy) → Given (start-3 (c .before .before)) p
-    → stranger p (c .before .byte .result) ≡ c .stranger .result
+fact-4 : (c : tie.After-stranger) (p : Policy)
+    → let d = c .before in
+    Given (start-3 d) p → stranger p (start-3 d .args .u) ≡ c .stranger .result
 fact-4 c p g = sym (c .stranger .ensures p (g .lent .masks))
 
-passed-4 : (c : tie.Else4) (p : Policy) → Given (start-4 c) p → (q : Request) → Passed p (now (start-4 c .args .bytes)) (sender-of c) q 4
-passed-4 c p g q = pass (passed-3 (back-4 c) p _ q) (fact-4 (c .before) p g ∙ c .if4 .left)
+passed-4 : (c : tie.Else4) (p : Policy) → Given (start-4 c) p
+    → Passed p (now (start-4 c .args .bytes)) (start-4 c .args .u) (start-4 c .args .q) 4
+passed-4 c p g = pass (passed-3 (back-4 c) p) (fact-4 (c .before) p g ∙ c .if4 .left)
 
 returns-4 : tie.Need-returns-4
 returns-4 c =
     λ p l s a r.
-    let g : Given (start-3 (c .before .before .before)) p = record { lent = l; sized = s; appointments = a; rules = r } in
-    verdict-stops p _ _ _ (c .before .before .byte .ensures) refl 3 (omega arith) (passed-3 (c .before .before .before) p _ _)
-    (fact-4 (c .before) p g ∙ c .if4 .taken)
+    let d = c .before .before in
+    let g : Given (start-3 d) p = record { lent = l; sized = s; appointments = a; rules = r } in
+    verdict-stops p _ _ _ 3 (omega arith) (passed-3 d p) (fact-4 (c .before) p g ∙ c .if4 .taken)
 
 -- ---- Check 5
 
-fact-5 : (c : tie.After-off-the-sheet) → offTheSheet (c .before .request-of .result) ≡ c .off-the-sheet .result
+fact-5 : (c : tie.After-off-the-sheet) → offTheSheet (start-4 (c .before) .args .q) ≡ c .off-the-sheet .result
 fact-5 c = sym (c .off-the-sheet .ensures)
 
 passed-5 : (c : tie.Else5) (p : Policy) → Given (start-5 c) p
-    → Passed p (now (start-5 c .args .bytes)) (sender-of (four-5 c)) (request-of c) 5
-passed-5 c p g = pass (passed-4 (back-5 c) p g _) (fact-5 (c .before) ∙ c .if5 .left)
+    → Passed p (now (start-5 c .args .bytes)) (start-5 c .args .u) (start-5 c .args .q) 5
+passed-5 c p g = pass (passed-4 (back-5 c) p g) (fact-5 (c .before) ∙ c .if5 .left)
 
 returns-5 : tie.Need-returns-5
 returns-5 c =
     λ p l s a r.
-    let d = c .before .before .before in
+    let d = c .before .before in
     let g : Given (start-4 d) p = record { lent = l; sized = s; appointments = a; rules = r } in
-    verdict-stops p _ _ _ (sent d) (c .before .before .request-of .ensures) 4 (omega arith) (passed-4 d p g _)
-    (fact-5 (c .before) ∙ c .if5 .taken)
+    verdict-stops p _ _ _ 4 (omega arith) (passed-4 d p g) (fact-5 (c .before) ∙ c .if5 .taken)
 
 -- ---- Check 6
 
 -- What stands at the place that the request names.
 named : (c : tie.After-rule-at) (p : Policy)
     → let d = c .before .before .before .before in
-    Given (start-5 d) p → Named p (request-of d) (c .before .before .appointment-at .result) (c .rule-at .result)
+    Given (start-5 d) p → Named p (start-5 d .args .q) (c .before .before .appointment-at .result) (c .rule-at .result)
 named c p g =
     named-of p _ (g .appointments) (g .rules)
     (c .before .before .before .place-of .ensures) (c .before .before .appointment-at .ensures)
@@ -260,12 +205,12 @@ named c p g =
 
 fact-6 : (c : tie.After-absent) (p : Policy)
     → let d = c .before .before .before .before .before in
-    Given (start-5 d) p → absent p (request-of d) ≡ c .absent .result
+    Given (start-5 d) p → absent p (start-5 d .args .q) ≡ c .absent .result
 fact-6 c p g =
     sym (c .absent .ensures p (g .lent .masks) (named (c .before) p g))
 
 passed-6 : (c : tie.Else6) (p : Policy) → Given (start-6 c) p
-    → Passed p (now (start-6 c .args .bytes)) (sender-of (four-6 c)) (request-of (five-6 c)) 6
+    → Passed p (now (start-6 c .args .bytes)) (start-6 c .args .u) (start-6 c .args .q) 6
 passed-6 c p g = pass (passed-5 (back-6 c) p g) (fact-6 (c .before) p g ∙ c .if6 .left)
 
 returns-6 : tie.Need-returns-6
@@ -273,19 +218,19 @@ returns-6 c =
     λ p l s a r.
     let d = c .before .before .before .before .before .before in
     let g : Given (start-5 d) p = record { lent = l; sized = s; appointments = a; rules = r } in
-    verdict-stops p _ _ _ (sent (four-5 d)) (asked d) 5 (omega arith) (passed-5 d p g)
+    verdict-stops p _ _ _ 5 (omega arith) (passed-5 d p g)
     (fact-6 (c .before) p g ∙ c .if6 .taken)
 
 -- ---- Check 7
 
 fact-7 : (c : tie.After-wrong-sort) (p : Policy)
     → let d = c .before in
-    Given (start-6 d) p → wrongSort p (request-of (five-6 d)) ≡ c .wrong-sort .result
+    Given (start-6 d) p → wrongSort p (start-6 d .args .q) ≡ c .wrong-sort .result
 fact-7 c p g =
     sym (c .wrong-sort .ensures p (g .lent .masks))
 
 passed-7 : (c : tie.Else7) (p : Policy) → Given (start-7 c) p
-    → Passed p (now (start-7 c .args .bytes)) (sender-of (four-7 c)) (request-of (five-7 c)) 7
+    → Passed p (now (start-7 c .args .bytes)) (start-7 c .args .u) (start-7 c .args .q) 7
 passed-7 c p g = pass (passed-6 (back-7 c) p g) (fact-7 (c .before) p g ∙ c .if7 .left)
 
 returns-7 : tie.Need-returns-7
@@ -293,20 +238,20 @@ returns-7 c =
     λ p l s a r.
     let d = c .before .before in
     let g : Given (start-6 d) p = record { lent = l; sized = s; appointments = a; rules = r } in
-    verdict-stops p _ _ _ (sent (four-6 d)) (asked (five-6 d)) 6 (omega arith) (passed-6 d p g)
+    verdict-stops p _ _ _ 6 (omega arith) (passed-6 d p g)
     (fact-7 (c .before) p g ∙ c .if7 .taken)
 
 -- ---- Check 8
 
 fact-8 : (c : tie.After-already-so) (p : Policy)
     → let d = c .before in
-    Given (start-7 d) p → alreadySo p (request-of (five-7 d)) ≡ c .already-so .result
+    Given (start-7 d) p → alreadySo p (start-7 d .args .q) ≡ c .already-so .result
 fact-8 c p g =
     let d = c .before in
     sym (c .already-so .ensures p (g .lent) (named (six-7 d .before .before) p g))
 
 passed-8 : (c : tie.Else8) (p : Policy) → Given (start-8 c) p
-    → Passed p (now (start-8 c .args .bytes)) (sender-of (four-8 c)) (request-of (five-8 c)) 8
+    → Passed p (now (start-8 c .args .bytes)) (start-8 c .args .u) (start-8 c .args .q) 8
 passed-8 c p g = pass (passed-7 (back-8 c) p g) (fact-8 (c .before) p g ∙ c .if8 .left)
 
 returns-8 : tie.Need-returns-8
@@ -314,21 +259,21 @@ returns-8 c =
     λ p l s a r.
     let d = c .before .before in
     let g : Given (start-7 d) p = record { lent = l; sized = s; appointments = a; rules = r } in
-    verdict-stops p _ _ _ (sent (four-7 d)) (asked (five-7 d)) 7 (omega arith) (passed-7 d p g)
+    verdict-stops p _ _ _ 7 (omega arith) (passed-7 d p g)
     (fact-8 (c .before) p g ∙ c .if8 .taken)
 
 -- ---- Check 9
 
 fact-9 : (c : tie.After-no-authority) (p : Policy)
     → let d = c .before .before in
-    Given (start-8 d) p → noAuthority p (sender-of (four-8 d)) (request-of (five-8 d)) ≡ c .no-authority .result
+    Given (start-8 d) p → noAuthority p (start-8 d .args .u) (start-8 d .args .q) ≡ c .no-authority .result
 fact-9 c p g =
     let d = c .before .before in
     sym (c .no-authority .ensures p (g .lent) (g .appointments) (named (six-8 d .before .before) p g)
     (c .before .permitting-rule .ensures p (g .lent) (g .rules)))
 
 passed-9 : (c : tie.Else9) (p : Policy) → Given (start-9 c) p
-    → Passed p (now (start-9 c .args .bytes)) (sender-of (four-9 c)) (request-of (five-9 c)) 9
+    → Passed p (now (start-9 c .args .bytes)) (start-9 c .args .u) (start-9 c .args .q) 9
 passed-9 c p g = pass (passed-8 (back-9 c) p g) (fact-9 (c .before) p g ∙ c .if9 .left)
 
 returns-9 : tie.Need-returns-9
@@ -336,21 +281,21 @@ returns-9 c =
     λ p l s a r.
     let d = c .before .before .before in
     let g : Given (start-8 d) p = record { lent = l; sized = s; appointments = a; rules = r } in
-    verdict-stops p _ _ _ (sent (four-8 d)) (asked (five-8 d)) 8 (omega arith) (passed-8 d p g)
+    verdict-stops p _ _ _ 8 (omega arith) (passed-8 d p g)
     (fact-9 (c .before) p g ∙ c .if9 .taken)
 
 -- ---- Check 10
 
 -- What checks 4 to 9 have shown.
-authorised : (c : tie.Else9) (p : Policy) → Given (start-9 c) p → Authorised p (sender-of (four-9 c)) (request-of (five-9 c))
+authorised : (c : tie.Else9) (p : Policy) → Given (start-9 c) p → Authorised p (start-9 c .args .u) (start-9 c .args .q)
 authorised c p g =
     record {
       sized = g .sized;
-      user = no-stranger _ _ (fact-4 (four-9 c .before) p g ∙ four-9 c .if4 .left);
+      user = let d = four-9 c in no-stranger _ _ (fact-4 (d .before) p g ∙ d .if4 .left);
       cleared =
           record {
-            on-sheet = fact-5 (five-9 c .before) ∙ five-9 c .if5 .left;
-            present = fact-6 (six-9 c .before) p g ∙ six-9 c .if6 .left;
+            on-sheet = let d = five-9 c in fact-5 (d .before) ∙ d .if5 .left;
+            present = let d = six-9 c in fact-6 (d .before) p g ∙ d .if6 .left;
             sorted = let d = back-8 (back-9 c) in fact-7 (d .before) p g ∙ d .if7 .left;
             fresh = fact-8 (back-9 c .before) p g ∙ back-9 c .if8 .left;
           };
@@ -359,7 +304,7 @@ authorised c p g =
 
 fact-10 : (c : tie.After-own-gain) (p : Policy)
     → let d = c .before .before .before in
-    Given (start-9 d) p → ownGain p (sender-of (four-9 d)) (request-of (five-9 d)) ≡ c .own-gain .result
+    Given (start-9 d) p → ownGain p (start-9 d .args .u) (start-9 d .args .q) ≡ c .own-gain .result
 fact-10 c p g =
     let d = c .before .before .before in
     sym
@@ -367,7 +312,7 @@ fact-10 c p g =
     (authorised d p g))
 
 passed-10 : (c : tie.Else10) (p : Policy) → Given (start-10 c) p
-    → Passed p (now (start-10 c .args .bytes)) (sender-of (four-10 c)) (request-of (five-10 c)) 10
+    → Passed p (now (start-10 c .args .bytes)) (start-10 c .args .u) (start-10 c .args .q) 10
 passed-10 c p g = pass (passed-9 (back-10 c) p g) (fact-10 (c .before) p g ∙ c .if10 .left)
 
 returns-10 : tie.Need-returns-10
@@ -375,21 +320,21 @@ returns-10 c =
     λ p l s a r.
     let d = c .before .before .before .before in
     let g : Given (start-9 d) p = record { lent = l; sized = s; appointments = a; rules = r } in
-    verdict-stops p _ _ _ (sent (four-9 d)) (asked (five-9 d)) 9 (omega arith) (passed-9 d p g)
+    verdict-stops p _ _ _ 9 (omega arith) (passed-9 d p g)
     (fact-10 (c .before) p g ∙ c .if10 .taken)
 
 -- ---- Check 11
 
 fact-11 : (c : tie.After-hand-over) (p : Policy)
     → let d = c .before .before in
-    Given (start-10 d) p → handOver p (sender-of (four-10 d)) (request-of (five-10 d)) ≡ c .hand-over .result
+    Given (start-10 d) p → handOver p (start-10 d .args .u) (start-10 d .args .q) ≡ c .hand-over .result
 fact-11 c p g =
     let d = c .before .before in
     sym (c .hand-over .ensures p (g .lent .masks) (d .before .before .before .rows-for .ensures p (g .lent)) (g .appointments)
     (authorised (nine-10 d) p g))
 
 passed-11 : (c : tie.Else11) (p : Policy) → Given (start-11 c) p
-    → Passed p (now (start-11 c .args .bytes)) (sender-of (four-11 c)) (request-of (five-11 c)) 11
+    → Passed p (now (start-11 c .args .bytes)) (start-11 c .args .u) (start-11 c .args .q) 11
 passed-11 c p g = pass (passed-10 (back-11 c) p g) (fact-11 (c .before) p g ∙ c .if11 .left)
 
 returns-11 : tie.Need-returns-11
@@ -397,19 +342,19 @@ returns-11 c =
     λ p l s a r.
     let d = c .before .before .before in
     let g : Given (start-10 d) p = record { lent = l; sized = s; appointments = a; rules = r } in
-    verdict-stops p _ _ _ (sent (four-10 d)) (asked (five-10 d)) 10 (omega arith) (passed-10 d p g)
+    verdict-stops p _ _ _ 10 (omega arith) (passed-10 d p g)
     (fact-11 (c .before) p g ∙ c .if11 .taken)
 
 -- ---- Check 12
 
 fact-12 : (c : tie.After-orphan) (p : Policy)
     → let d = c .before in
-    Given (start-11 d) p → orphan p (request-of (five-11 d)) ≡ c .orphan .result
+    Given (start-11 d) p → orphan p (start-11 d .args .q) ≡ c .orphan .result
 fact-12 c p g =
     sym (c .orphan .ensures p (g .lent) (g .appointments))
 
 passed-12 : (c : tie.Else12) (p : Policy) → Given (start-12 c) p
-    → Passed p (now (start-12 c .args .bytes)) (sender-of (four-12 c)) (request-of (five-12 c)) 12
+    → Passed p (now (start-12 c .args .bytes)) (start-12 c .args .u) (start-12 c .args .q) 12
 passed-12 c p g = pass (passed-11 (back-12 c) p g) (fact-12 (c .before) p g ∙ c .if12 .left)
 
 returns-12 : tie.Need-returns-12
@@ -417,7 +362,7 @@ returns-12 c =
     λ p l s a r.
     let d = c .before .before in
     let g : Given (start-11 d) p = record { lent = l; sized = s; appointments = a; rules = r } in
-    verdict-stops p _ _ _ (sent (four-11 d)) (asked (five-11 d)) 11 (omega arith) (passed-11 d p g)
+    verdict-stops p _ _ _ 11 (omega arith) (passed-11 d p g)
     (fact-12 (c .before) p g ∙ c .if12 .taken)
 
 -- ---- And done
@@ -430,108 +375,41 @@ returns-13 c =
     c .done .ensures
     ∙ ap doneBy (nine-12 d .before .before .permitting-rule .ensures p l r)
     ∙ done-is p _ _
-    ∙ verdict-done p _ _ _ (sent (four-12 d)) (asked (five-12 d)) (passed-12 d p g)
-
--- ---- The callees ask for nothing
-
-torn-requires : tie.Need-torn-requires
-torn-requires c κs = search needs
-
-unknown-requires : tie.Need-unknown-requires
-unknown-requires c κs = search needs
-
-misfit-requires : tie.Need-misfit-requires
-misfit-requires c κs = search needs
-
-byte-requires : tie.Need-byte-requires
-byte-requires c κs = search needs
-
-stranger-requires : tie.Need-stranger-requires
-stranger-requires c κs = search needs
-
-request-of-requires : tie.Need-request-of-requires
-request-of-requires c κs = search needs
-
-off-the-sheet-requires : tie.Need-off-the-sheet-requires
-off-the-sheet-requires c κs = search needs
-
-place-of-requires : tie.Need-place-of-requires
-place-of-requires c κs = search needs
-
-appointment-at-requires : tie.Need-appointment-at-requires
-appointment-at-requires c κs = search needs
-
-place-of-requires-2 : tie.Need-place-of-requires-2
-place-of-requires-2 c κs = search needs
-
-rule-at-requires : tie.Need-rule-at-requires
-rule-at-requires c κs = search needs
-
-absent-requires : tie.Need-absent-requires
-absent-requires c κs = search needs
-
-wrong-sort-requires : tie.Need-wrong-sort-requires
-wrong-sort-requires c κs = search needs
-
-already-so-requires : tie.Need-already-so-requires
-already-so-requires c κs = search needs
-
-permitting-rule-requires : tie.Need-permitting-rule-requires
-permitting-rule-requires c κs = search needs
-
-no-authority-requires : tie.Need-no-authority-requires
-no-authority-requires c κs = search needs
-
-rows-for-requires : tie.Need-rows-for-requires
-rows-for-requires c κs = search needs
-
-own-gain-requires : tie.Need-own-gain-requires
-own-gain-requires c κs = search needs
-
-hand-over-requires : tie.Need-hand-over-requires
-hand-over-requires c κs = search needs
-
-orphan-requires : tie.Need-orphan-requires
-orphan-requires c κs = search needs
-
-done-requires : tie.Need-done-requires
-done-requires c κs = search needs
+    ∙ verdict-done p _ _ _ (passed-12 d p g)
 
 pub verdict-spec : {M : Type 1} → statement M
 verdict-spec =
     tie.close
     (tie.spec
-    torn-requires
+    (λ c κs. search needs)
     returns
-    unknown-requires
+    (λ c κs. search needs)
     returns-2
-    misfit-requires
+    (λ c κs. search needs)
     returns-3
-    byte-requires
-    stranger-requires
+    (λ c κs. search needs)
     returns-4
-    request-of-requires
-    off-the-sheet-requires
+    (λ c κs. search needs)
     returns-5
-    place-of-requires
-    appointment-at-requires
-    place-of-requires-2
-    rule-at-requires
-    absent-requires
+    (λ c κs. search needs)
+    (λ c κs. search needs)
+    (λ c κs. search needs)
+    (λ c κs. search needs)
+    (λ c κs. search needs)
     returns-6
-    wrong-sort-requires
+    (λ c κs. search needs)
     returns-7
-    already-so-requires
+    (λ c κs. search needs)
     returns-8
-    permitting-rule-requires
-    no-authority-requires
+    (λ c κs. search needs)
+    (λ c κs. search needs)
     returns-9
-    rows-for-requires
-    own-gain-requires
+    (λ c κs. search needs)
+    (λ c κs. search needs)
     returns-10
-    hand-over-requires
+    (λ c κs. search needs)
     returns-11
-    orphan-requires
+    (λ c κs. search needs)
     returns-12
-    done-requires
+    (λ c κs. search needs)
     returns-13)

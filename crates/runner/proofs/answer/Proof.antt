@@ -6,17 +6,12 @@ use Rattle.list.proofs.Room.{printed-count, printed-whole}
 use borrow.Author.Needs.{needs}
 use Rattle.runner.proofs.answer.Statement.{statement}
 use Rattle.runner.proofs.answer.Tie as tie
-use Rattle.runner.proofs.answer.Reads as reads
-use Rattle.runner.proofs.answer.Lts as lts
-use Rattle.list.proofs.output.Reads as output-reads
-
-output-requires : tie.Need-output-requires
-output-requires c κs = search needs
 
 returns : tie.Need-returns
 returns c =
     let long : length (now (c .before .before .before .args .text)) ≡ 212992 = search needs in
-    (printed-count _ _ long (c .output .ensures), printed-whole _ _ long (c .output .ensures))
+    let told = c .output .ensures in
+    (printed-count _ _ long (told .0), (printed-whole _ _ long (told .0), told .1))
 
 pub answer-spec : {M : Type 1} → statement M
-answer-spec = tie.close (tie.spec output-requires returns)
+answer-spec = tie.close (tie.spec (λ c κs. search needs) returns)

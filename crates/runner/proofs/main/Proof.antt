@@ -38,10 +38,10 @@ answer-requires : tie.Need-answer-requires
 answer-requires c κs = search needs
 
 array-share-prefix-text : tie.Need-array-share-prefix-text
-array-share-prefix-text c = within _ _ _ (c .answer .ensures .0) (c .answer .ensures .1)
+array-share-prefix-text c = within _ _ _ (c .answer .ensures .0) (c .answer .ensures .1 .0)
 
 slice-aggregate-write-all : tie.Need-slice-aggregate-write-all
-slice-aggregate-write-all c = length-of _ _ _ (c .before .answer .ensures .0) (c .before .answer .ensures .1)
+slice-aggregate-write-all c = length-of _ _ _ (c .before .answer .ensures .0) (c .before .answer .ensures .1 .0)
 
 write-all-requires : tie.Need-write-all-requires
 write-all-requires c κs = search needs

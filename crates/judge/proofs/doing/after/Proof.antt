@@ -1,28 +1,66 @@
--- Table by table.
-use Rattle.judge.proofs.Tabled.{after-is}
+-- `after` carries the request out: each arm is the successor that the rules name for that kind.
+use mathlib.Core.Path.{_≡_, sym, ap, _∙_}
+use Rattle.rules.specs.Doing.{after}
 use borrow.Author.Needs.{needs}
 use Rattle.judge.proofs.doing.after.Statement.{statement}
 use Rattle.judge.proofs.doing.after.Tie as tie
 
-sorts-after-requires : tie.Need-sorts-after-requires
-sorts-after-requires c κs = search needs
-
-members-after-requires : tie.Need-members-after-requires
-members-after-requires c κs = search needs
-
-appointments-after-requires : tie.Need-appointments-after-requires
-appointments-after-requires c κs = search needs
-
-rules-after-requires : tie.Need-rules-after-requires
-rules-after-requires c κs = search needs
-
 returns : tie.Need-returns
-returns c =
-    after-is _ _
-    (c .before .before .before .sorts-after .ensures) (c .before .before .members-after .ensures)
-    (c .before .appointments-after .ensures) (c .rules-after .ensures)
+unfolding after
+returns c = c .made .ensures ∙ ap (after _) (sym (c .before .before .q .given .1))
+
+returns-2 : tie.Need-returns-2
+unfolding after
+returns-2 c = c .put .ensures ∙ ap (after _) (sym (c .before .before .q2 .given .1))
+
+returns-3 : tie.Need-returns-3
+unfolding after
+returns-3 c = c .taken .ensures ∙ ap (after _) (sym (c .before .before .q3 .given .1))
+
+returns-4 : tie.Need-returns-4
+unfolding after
+returns-4 c = c .appointed .ensures ∙ ap (after _) (sym (c .before .before .q4 .given .1))
+
+returns-5 : tie.Need-returns-5
+unfolding after
+returns-5 c = c .dismissed .ensures ∙ ap (after _) (sym (c .before .before .q5 .given .1))
+
+returns-6 : tie.Need-returns-6
+unfolding after
+returns-6 c = c .granted .ensures ∙ ap (after _) (sym (c .before .before .q6 .given .1))
+
+returns-7 : tie.Need-returns-7
+unfolding after
+returns-7 c = c .withdrawn .ensures ∙ ap (after _) (sym (c .before .before .q7 .given .1))
+
+returns-8 : tie.Need-returns-8
+unfolding after
+returns-8 c = ap (after _) (sym (c .enum-told .given .1))
 
 pub after-spec : {M : Type 1} → statement M
 after-spec =
     tie.close
-    (tie.spec sorts-after-requires members-after-requires appointments-after-requires rules-after-requires returns)
+    (tie.spec
+    (λ c. search needs)
+    (λ c κs. search needs)
+    (λ c. search needs)
+    (λ c κs. search needs)
+    (λ c. search needs)
+    (λ c κs. search needs)
+    (λ c. search needs)
+    (λ c κs. search needs)
+    (λ c. search needs)
+    (λ c κs. search needs)
+    (λ c. search needs)
+    (λ c κs. search needs)
+    (λ c. search needs)
+    (λ c κs. search needs)
+    (λ c. search needs)
+    returns
+    returns-2
+    returns-3
+    returns-4
+    returns-5
+    returns-6
+    returns-7
+    returns-8)

@@ -1,42 +1,28 @@
--- `output` prints what the program prints: past the limit the line that says so, else the report.
+-- `output` prints what the program prints: past the limit the line that says so, else the report. Demand 3 holds of the records of any
+-- input (`third`).
+use Rattle.list.proofs.Demanded.{third}
 use Rattle.list.proofs.Reporting.{printed-too-long, printed-report}
 use borrow.Author.Needs.{needs}
 use Rattle.list.proofs.program.output.Statement.{statement}
 use Rattle.list.proofs.program.output.Tie as tie
-use Rattle.list.proofs.program.output.Reads as reads
-use Rattle.list.proofs.program.output.Lts as lts
-use Rattle.list.proofs.program.report.Reads as report-reads
-use Rattle.text.proofs.put_bytes.Reads as put-bytes-reads
-
-slice-aggregate-put-bytes : tie.Need-slice-aggregate-put-bytes
-slice-aggregate-put-bytes c = search needs
-
-put-bytes-requires : tie.Need-put-bytes-requires
-put-bytes-requires c κs = search needs
-
-same-length : tie.Need-same-length
-same-length c = search needs
 
 returns : tie.Need-returns
-returns c = printed-too-long _ (c .before .before .before .before .before .if1 .taken) (c .before .before .put-bytes .ensures)
-
-report-requires : tie.Need-report-requires
-report-requires c κs = search needs
-
-same-length-2 : tie.Need-same-length-2
-same-length-2 c = search needs
+returns c =
+    (printed-too-long _ (c .before .before .before .before .before .if1 .taken) (c .before .before .put-bytes .ensures), third _)
 
 returns-2 : tie.Need-returns-2
-returns-2 c = printed-report _ (c .before .before .before .before .if1 .left) (c .before .before .report .ensures)
+returns-2 c =
+    let told = c .before .before .report .ensures in
+    (printed-report _ (c .before .before .before .before .if1 .left) (told .0), told .1)
 
 pub output-spec : {M : Type 1} → statement M
 output-spec =
     tie.close
     (tie.spec
-    slice-aggregate-put-bytes
-    put-bytes-requires
-    same-length
+    (λ c. search needs)
+    (λ c κs. search needs)
+    (λ c. search needs)
     returns
-    report-requires
-    same-length-2
+    (λ c κs. search needs)
+    (λ c. search needs)
     returns-2)
