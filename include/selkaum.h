@@ -1,8 +1,9 @@
 /* Selkaum for C: the functions of libexport.a, which `rt staticlib export` writes. Their contracts are proved (crates/export).
  *
- * A lent buffer is a pointer and the number of bytes behind it, in this order. A caller sees to it that the bytes are there, that those
- * of a buffer that is written overlap no other buffer of the call, and that nothing else writes them meanwhile. Nothing more is asked:
- * every policy, every record and every length has an answer. No function keeps a pointer, allocates memory or has a state of its own.
+ * A lent buffer is a pointer and the number of bytes (of `ends`, of ends) behind it, in this order. A caller sees to it that these are
+ * there, that those of a buffer that is written overlap no other buffer of the call, and that nothing else writes them meanwhile. Nothing
+ * more is asked: every policy, every record and every length has an answer. No function keeps a pointer, allocates memory or has a state
+ * of its own.
  */
 #ifndef SELKAUM_H
 #define SELKAUM_H
@@ -47,6 +48,18 @@ size_t selkaum_judge(const uint8_t *policy, size_t policy_len,
  */
 size_t selkaum_report(const uint8_t *input, size_t input_len,
                       uint8_t *out, size_t out_len);
+
+/* Runs a list of records, the first on the founding and each later one on the policy that the one before it left. Record i is the part of
+ * `bytes` from the end before it, the first from 0, up to `ends[i]`; where that is no part of the bytes, the record is empty, and so is
+ * refused as torn. Writes the code of record i to `codes[i]`, the rule that it cites to `cited[i]`, and the picture of the policy after the
+ * list over the first 960 bytes of `policy`; all bytes behind these stay as they are. Returns 960. If `codes_len` or `cited_len` is less
+ * than `ends_len`, or `policy_len` less than 960, it judges nothing, writes nothing and returns 0.
+ */
+size_t selkaum_run(const uint8_t *bytes, size_t bytes_len,
+                   const size_t *ends, size_t ends_len,
+                   uint8_t *codes, size_t codes_len,
+                   uint8_t *cited, size_t cited_len,
+                   uint8_t *policy, size_t policy_len);
 
 #ifdef __cplusplus
 }

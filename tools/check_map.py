@@ -45,7 +45,7 @@ def functions(path):
             owner = found[1] + "::"
         elif line.startswith("}"):
             owner = ""
-        if found := re.match(r"\s*(?:[\w()]+\s+)*(fn|struct|enum)\s+(\w+)", line):
+        if found := re.match(r'\s*(?:[\w()"]+\s+)*(fn|struct|enum)\s+(\w+)', line):
             names.add((owner if found[1] == "fn" else "") + found[2])
     return names
 
@@ -121,12 +121,13 @@ def self_test():
     files = {
         "crates/reach/specs/Tables.antt": "-- [01:keeps.2]\nabbrev pub sort : T\ndata S : T where\n  group gear : S\n-- gone : T\n",
         "crates/reach/proofs/deep/Reaching.antt": "pub under-trans : {x : T} → U\nunder-trans = go (left : T)\n",
-        "crates/reach/src/lib.rt": "impl Policy {\n    pub fn put(self) -> u8\n}\npub fn top() {\n}\n// fn gone()\n",
+        "crates/reach/src/lib.rt":
+            'impl Policy {\n    pub fn put(self) -> u8\n}\npub fn top() {\n}\npub extern "C" fn lent() {\n}\n// fn gone()\n',
         "crates/reach/must-fail/wrong-one.edit": "", "docs/DECISIONS.md": "D1. One.\n## D2. Two.\nSee D3. Three.\n",
         MAP: "# Map\n| id | first words | carried by | would notice |\n|---|---|---|:--|\n"
              "| 01:keeps.1 | a `b` | `Tables.sort`, `Tables.gear` and `D1` | `must-fail/wrong-one` `D2` |\n"
              "| 01:keeps.2 | b | | |\n| 01:keeps.3 | c | not yet | |\n| 01:who.1 | d | scope | |\n"
-             "| 01:who.2 | e | `reach::Policy::put` `reach::top` | `proofs/Reaching.under-trans` `docs/MAP.md` `docs/` |\n"}
+             "| 01:who.2 | e | `reach::Policy::put` `reach::top` `reach::lent` | `proofs/Reaching.under-trans` `docs/MAP.md` `docs/` |\n"}
     cases = [  # an edit, and what the first error then says; the first case is the map as it should be
         ("", "", ""), (files[MAP], "", "no rows"), ("# Map", "# Map\n| 1 | 2 |", "MAP.md:2: not a row"),
         ("keeps.3", "keeps.2", "already at line 5"), ("keeps.3", "keeps.4", "next number of 01:keeps is 3"),
@@ -145,7 +146,7 @@ def self_test():
                 (Path(folder) / name).parent.mkdir(parents=True, exist_ok=True)
                 (Path(folder) / name).write_text(text.replace(old, new, 1) if old else text, "utf-8")
             rows, names, errors = check(Path(folder))
-        right = told in (errors or ["none"])[0] if told else (rows, names, errors) == (5, 10, [])
+        right = told in (errors or ["none"])[0] if told else (rows, names, errors) == (5, 11, [])
         assert right and any(old in text for text in files.values()), (old, new, told, rows, names, errors)
     print(f"self-test: 1 good map and {len(cases) - 1} wrong ones, all as expected")
 

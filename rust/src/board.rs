@@ -1,6 +1,7 @@
 //! The proved board, as `include/selkaum.h` declares it. A slice tells the library where its
 //! bytes are and how many, which is all that it asks of a caller; so the functions here are safe.
 
+use crate::list::Run;
 use crate::sheet::{Sheet, NO_RULE, PICTURE};
 
 /// Length of an answer: the picture of the sheet after, the code and the cited rule.
@@ -17,6 +18,19 @@ extern "C" {
     ) -> usize;
 
     fn selkaum_report(input: *const u8, input_len: usize, out: *mut u8, out_len: usize) -> usize;
+
+    fn selkaum_run(
+        bytes: *const u8,
+        bytes_len: usize,
+        ends: *const usize,
+        ends_len: usize,
+        codes: *mut u8,
+        codes_len: usize,
+        cited: *mut u8,
+        cited_len: usize,
+        policy: *mut u8,
+        policy_len: usize,
+    ) -> usize;
 }
 
 /// An answer whose sheet is a picture, as the board returns it.
@@ -88,6 +102,46 @@ pub fn room(input: usize) -> usize {
     let lines = input / 4 + 1;
     let longest = format!("{lines} 12 {NO_RULE}\n");
     lines * longest.len()
+}
+
+/// `selkaum_run` as it is: writes the codes, the cited rules and the picture of the sheet after
+/// over the start of the three buffers, if all of them fit, and returns the length of the picture,
+/// or else 0.
+pub fn run_into(
+    bytes: &[u8],
+    ends: &[usize],
+    codes: &mut [u8],
+    cited: &mut [u8],
+    policy: &mut [u8],
+) -> usize {
+    // SAFETY: what the slices hold is there, and none of the three buffers is lent twice.
+    unsafe {
+        selkaum_run(
+            bytes.as_ptr(),
+            bytes.len(),
+            ends.as_ptr(),
+            ends.len(),
+            codes.as_mut_ptr(),
+            codes.len(),
+            cited.as_mut_ptr(),
+            cited.len(),
+            policy.as_mut_ptr(),
+            policy.len(),
+        )
+    }
+}
+
+/// The board's run of a list from the founding.
+pub fn run(bytes: &[u8], ends: &[usize]) -> Run {
+    let mut run = Run {
+        codes: vec![0; ends.len()],
+        cited: vec![0; ends.len()],
+        picture: [0; PICTURE],
+    };
+    let (codes, cited, picture) = (&mut run.codes, &mut run.cited, &mut run.picture);
+    let written = run_into(bytes, ends, codes, cited, picture);
+    assert_eq!(written, PICTURE, "the board runs a list that fits");
+    run
 }
 
 /// The picture of the founding.

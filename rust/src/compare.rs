@@ -1,6 +1,7 @@
 //! The proved board held against the three judges of this package. Where they differ, the
 //! records that show it are cut down to those that it needs.
 
+use crate::list::{self, Run};
 use crate::report::{lines, Next, Reader};
 use crate::sheet::{Sheet, PICTURE};
 use crate::{board, fast, plain, sets};
@@ -114,6 +115,38 @@ pub fn reports(input: &[u8]) -> Result<Vec<u8>, String> {
         write!(message, "{name}:\n{text}").expect("a String takes all text");
     }
     Err(message)
+}
+
+/// The run of a list by all four, or what shows that they differ. Ends are left out, from the
+/// last on, as long as it still does.
+pub fn runs(bytes: &[u8], ends: &[usize]) -> Result<Run, String> {
+    let runs_of_all = runs_by_all(bytes, ends);
+    if all_same(&runs_of_all) {
+        let [board, ..] = runs_of_all;
+        return Ok(board);
+    }
+    let mut count = ends.len();
+    while count > 0 && !all_same(&runs_by_all(bytes, &ends[..count - 1])) {
+        count -= 1;
+    }
+    let ends = &ends[..count];
+    let mut message = format!(
+        "the runs differ on\n{}\nwith the ends {ends:?}\n",
+        hex(bytes)
+    );
+    for (name, run) in NAMES.iter().zip(runs_by_all(bytes, ends)) {
+        writeln!(message, "{name}: {run:?}").expect("a String takes all text");
+    }
+    Err(message)
+}
+
+fn runs_by_all(bytes: &[u8], ends: &[usize]) -> [Run; 4] {
+    [
+        board::run(bytes, ends),
+        list::run(bytes, ends, plain::judge),
+        list::run(bytes, ends, sets::judge),
+        list::run(bytes, ends, fast::judge),
+    ]
 }
 
 fn all_same<T: PartialEq>(many: &[T]) -> bool {

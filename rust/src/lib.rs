@@ -8,6 +8,7 @@ pub mod board;
 pub mod compare;
 pub mod fast;
 pub mod generate;
+pub mod list;
 pub mod plain;
 pub mod report;
 pub mod sets;

@@ -1,5 +1,7 @@
--- The laws of the picture: tables as they are read and stored, the picture of a policy as a whole, and that it is faithful.
+-- The laws of the picture: tables as they are read and stored, the picture of a policy as a whole, that it is faithful; and what a list
+-- leaves in three buffers.
 pub mod Tabling
 pub mod Storing
 pub mod Picturing
 pub mod Faithful
+pub mod Filling

@@ -1,2 +1,3 @@
--- The picture of a policy in bytes, and what is judged by it.
+-- The picture of a policy in bytes, what is judged by it, and what a whole list leaves.
 pub mod Picture
+pub mod Listed

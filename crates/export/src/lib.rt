@@ -1,8 +1,12 @@
 // Selkaum for C and Rust: the entry points of a static library. No function asks anything of its caller beyond buffers that are there and
 // do not overlap.
+ghost use Rattle.frame.specs.Reading.{recordsFrom};
 ghost use Rattle.text.specs.Text.{Printed};
+ghost use Rattle.list.specs.Parts.{handed};
+ghost use Rattle.list.specs.Demand.{FoundingDemand3};
 ghost use Rattle.list.specs.Report.{report};
 ghost use Rattle.export.specs.Picture.{Judged};
+ghost use Rattle.export.specs.Listed.{Listed};
 
 mod drawing;
 mod reading;
@@ -14,10 +18,11 @@ use judge::judge;
 use reading::policy_of;
 
 // The lines for the records of an input of any length into out, as the program prints them for one that is not too long. A buffer that is
-// too small gets as much of the text as it has room for. The result counts the bytes written.
+// too small gets as much of the text as it has room for. The result counts the bytes written. Of the records demand 3 holds, whole.
 #[no_mangle]
 pub extern "C" fn selkaum_report(input: &[u8], out: &mut [u8]) -> usize
     ensures { λ r. ⌜ Printed (now (out .entry)) (report (now (input .entry))) (now (out .exit)) r ⌝ }
+    ensures { λ r. ⌜ FoundingDemand3 (recordsFrom (now (input .entry)) 0) ⌝ }
 {
     list::report(input, out)
 }
@@ -41,4 +46,32 @@ pub extern "C" fn selkaum_judge(policy: &[u8], bytes: &[u8], answer: &mut [u8]) 
     answer[960] = code_of(verdict);
     answer[961] = cited_of(verdict);
     962
+}
+
+// Runs a list from the founding, which is handed in as bytes and the ends of its records: the code and the cited rule of record i go to
+// place i of two buffers, the picture of the policy after the list into the third, and the result is 960. Where a buffer is too short,
+// nothing is written, and the result is 0. Of the list demand 3 holds, whole.
+#[no_mangle]
+pub extern "C" fn selkaum_run(
+    bytes: &[u8],
+    ends: &[usize],
+    codes: &mut [u8],
+    cited: &mut [u8],
+    policy: &mut [u8],
+) -> usize
+    ensures { λ r. ⌜ Listed (handed (now (bytes .entry)) (now (ends .entry)))
+        (now (codes .entry)) (now (cited .entry)) (now (policy .entry))
+        (now (codes .exit)) (now (cited .exit)) (now (policy .exit)) r ⌝ }
+    ensures { λ r. ⌜ FoundingDemand3 (handed (now (bytes .entry)) (now (ends .entry))) ⌝ }
+{
+    if policy.len() < 960 {
+        return 0;
+    }
+    let outcome = list::run_list(bytes, ends, codes, cited);
+    if !outcome.ran {
+        return 0;
+    }
+    let after = outcome.policy;
+    put_policy(policy, after);
+    960
 }
