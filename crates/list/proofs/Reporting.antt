@@ -10,14 +10,17 @@ use Rattle.reach.specs.declared.Policy.{Policy}
 use Rattle.reach.specs.Tests.{_⇒_∥_}
 use Rattle.reach.specs.Tables.{initial}
 use Rattle.frame.specs.declared.Step.the-variants.{Record, Torn, End}
-use Rattle.frame.specs.Reading.{stepAt, placeAfter, recordBytes, recordsFrom, tornFrom}
+use Rattle.frame.specs.Reading.{stepAt, recordBytes, recordsFrom, tornFrom}
 use Rattle.frame.proofs.Steps.{Found, step-record, step-torn}
 use Rattle.frame.proofs.Records.{records-of-record, torn-of-record, records-of-torn, torn-of-torn, records-of-end, torn-of-end}
 use Rattle.rules.specs.declared.Answer.{Answer}
 use Rattle.rules.specs.Judging.{codeOf, citedOf, judge, numbersOf, answers}
 use Rattle.rules.proofs.Table.{answers-none, answers-next}
 use Rattle.text.specs.Text.{Bytes, line, lines, tornPlace, Wrote, Printed}
+use Rattle.list.specs.declared.Reported.{Reported}
+use Rattle.list.specs.Runs.{run}
 use Rattle.list.specs.Report.{answersFrom, report, tooLong, output}
+use Rattle.list.specs.Filling.{ReportInto}
 use Rattle.text.proofs.Writing.{wrote-none, wrote-as, printed-of-wrote}
 use Rattle.text.proofs.Printing.{lines-none, wrote-next-line}
 
@@ -46,12 +49,9 @@ module _ (first : Policy) (b out₀ : Bytes) where
     pub count : length so-far ≡ index
     pub wrote : Wrote out₀ 0 (lines 0 so-far) out n
     pub to-come : so-far ++ answersFrom p b at ≡ answersFrom first b 0
+    pub policy-to-come : run p (recordsFrom b at) ≡ run first (recordsFrom b 0)
     pub index-low : index ≤ at
     pub within : at ≤ length b
-
-  -- The text that is to be printed.
-  abbrev Whole : Bytes → ℕ → Type 0
-  Whole out r = Printed out₀ (lines 0 (answersFrom first b 0)) out r
 
   pub reporting-start : Reporting out₀ first 0 0 0
   reporting-start = record {
@@ -59,6 +59,7 @@ module _ (first : Policy) (b out₀ : Bytes) where
     count = refl;
     wrote = wrote-as (sym (lines-none 0)) (wrote-none out₀ 0);
     to-come = refl;
+    policy-to-come = refl;
     index-low = zero-le;
     within = zero-le;
   }
@@ -72,20 +73,25 @@ module _ (first : Policy) (b out₀ : Bytes) where
         (subst (λ (k : ℕ). Wrote out n (line k code cited) out′ r) (sym (s .count)) w)
 
     -- All that is written is the text, once no answer is to come.
-    whole : {out′ : Bytes} {r : ℕ} (l : List (ℕ × ℕ)) → l ≡ answersFrom first b 0 → Wrote out₀ 0 (lines 0 l) out′ r → Whole out′ r
-    whole l e w = printed-of-wrote (wrote-as (ap (lines 0) e) w)
+    whole : {out′ : Bytes} {r : ℕ} (l : List (ℕ × ℕ)) → l ≡ answersFrom first b 0 → Wrote out₀ 0 (lines 0 l) out′ r
+        → recordsFrom b at ≡ [] → ReportInto first b out₀ out′ (record { written = r; policy = p })
+    unfolding run
+    whole l e w none = record {
+      text = printed-of-wrote (wrote-as (ap (lines 0) e) w);
+      policy = ap (run p) (sym none) ∙ s .policy-to-come;
+    }
 
     pub reporting-record : {out′ : Bytes} {r start len next at′ : ℕ} (a : Answer) (code cite : ℕ)
         → stepAt b at ≡ Record start len next
         → a ≡ judge p (take (next - start) (drop start b))
         → code ≡ codeOf (a .verdict) → cite ≡ citedOf (a .verdict)
         → Wrote out n (line index code cite) out′ r
-        → at′ ≡ placeAfter at (stepAt b at)
+        → at′ ≡ next
         → Reporting out′ (a .policy) at′ (index + 1) r
-    reporting-record {start = start} {len} {next} {at′} a code cite e j f g w k =
+    unfolding run
+    reporting-record {start = start} {len} {next} {at′} a code cite e j f g w after =
         let found : Found b at start len next = step-record b at start len next e in
         let long : next - start ≡ len = omega (arith, found .ends) in
-        let after : at′ ≡ next = k ∙ ap (placeAfter at) e in
         record {
           so-far = s .so-far ++ ((code, cite) ∷ []);
           count = simp (length-append, s .count);
@@ -93,29 +99,34 @@ module _ (first : Policy) (b out₀ : Bytes) where
           to-come =
               rw (append-assoc, f, g, j, long, after)
               (ap (λ (l : List (ℕ × ℕ)). s .so-far ++ l) (sym (answers-of-record p b at start len next e)) ∙ s .to-come);
+          policy-to-come =
+              rw (j, long, after) (ap (run p) (sym (records-of-record b at start len next e)) ∙ s .policy-to-come);
           index-low = omega (arith, s .index-low, found .long);
           within = omega (arith, found .within);
         }
 
-    pub reporting-torn : {out′ : Bytes} {r : ℕ} → stepAt b at ≡ Torn → Wrote out n (line index 1 255) out′ r → Whole out′ r
+    pub reporting-torn : {out′ : Bytes} {r : ℕ} → stepAt b at ≡ Torn → Wrote out n (line index 1 255) out′ r
+        → ReportInto first b out₀ out′ (record { written = r; policy = p })
     reporting-torn e w =
         whole
         (s .so-far ++ (tornPlace ∷ []))
         (ap (λ (l : List (ℕ × ℕ)). s .so-far ++ l) (sym (answers-of-torn p b at e)) ∙ s .to-come)
         (next-line 1 255 w)
+        (records-of-torn b at e)
 
-    pub reporting-end : stepAt b at ≡ End → Whole out n
+    pub reporting-end : stepAt b at ≡ End → ReportInto first b out₀ out (record { written = n; policy = p })
     reporting-end e =
         whole
         (s .so-far)
         (sym (append-nil (s .so-far)) ∙ ap (λ (l : List (ℕ × ℕ)). s .so-far ++ l) (sym (answers-of-end p b at e)) ∙ s .to-come)
         (s .wrote)
+        (records-of-end b at e)
 
 -- From the founding on it is the report.
-pub printed-founding : (p : Policy) (b : Bytes) {out out′ : Bytes} {r : ℕ} → p ≡ initial
-    → Printed out (lines 0 (answersFrom p b 0)) out′ r → Printed out (report b) out′ r
+pub printed-founding : {p : Policy} {b out out′ : Bytes} {r : Reported} → p ≡ initial → ReportInto p b out out′ r
+    → Printed out (report b) out′ (r .written)
 unfolding report
-printed-founding p b e q = rw e at q
+printed-founding e k = rw e at (k .text)
 
 -- ---- The limit on the input
 

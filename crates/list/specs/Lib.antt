@@ -1,7 +1,7 @@
 -- A list of requests and how it is handed in, the lines of authority in it, demand 3, and what the program prints.
 pub mod Runs
 pub mod Parts
-pub mod Filling
 pub mod Lines
 pub mod Demand
 pub mod Report
+pub mod Filling

@@ -15,3 +15,9 @@ pub struct Outcome {
     pub ran: bool,
     pub policy: Policy,
 }
+
+// What a report leaves: how many bytes of its text were written, and the policy after its last record.
+pub struct Reported {
+    pub written: usize,
+    pub policy: Policy,
+}

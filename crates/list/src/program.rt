@@ -1,8 +1,10 @@
 // What the program prints for its input. A buffer that is too small gets as much of the text as it has room for.
 ghost use Rattle.frame.specs.Reading.{recordsFrom};
-ghost use Rattle.text.specs.Text.{lines, Printed};
-ghost use Rattle.list.specs.Report.{answersFrom, report, output};
+ghost use Rattle.text.specs.Text.{Printed};
+ghost use Rattle.list.specs.Report.{report, output};
+ghost use Rattle.list.specs.Filling.{ReportInto};
 ghost use Rattle.list.specs.Demand.{FoundingDemand3};
+use crate::Reported;
 use frame::Step;
 use frame::read_after;
 use frame::read_at;
@@ -14,8 +16,8 @@ use text::put_bytes;
 use text::put_line;
 
 // A line for each record of the input, the first judged on p and each later one on what the judge handed back, and one for a torn place.
-pub fn report_from(p: Policy, input: &[u8], out: &mut [u8]) -> usize
-    ensures { λ r. ⌜ Printed (now (out .entry)) (lines 0 (answersFrom p (now (input .entry)) 0)) (now (out .exit)) r ⌝ }
+pub fn report_from(p: Policy, input: &[u8], out: &mut [u8]) -> Reported
+    ensures { λ r. ⌜ ReportInto p (now (input .entry)) (now (out .entry)) (now (out .exit)) r ⌝ }
 {
     let mut current = p;
     let mut at: usize = 0;
@@ -35,8 +37,19 @@ pub fn report_from(p: Policy, input: &[u8], out: &mut [u8]) -> usize
                 at = read_after(input, at);
                 index = index + 1;
             }
-            Step::Torn => return put_line(out, n, index, 1, 255),
-            Step::End => return n,
+            Step::Torn => {
+                let last = put_line(out, n, index, 1, 255);
+                return Reported {
+                    written: last,
+                    policy: current,
+                };
+            }
+            Step::End => {
+                return Reported {
+                    written: n,
+                    policy: current,
+                };
+            }
         }
     }
 }
@@ -46,7 +59,8 @@ pub fn report(input: &[u8], out: &mut [u8]) -> usize
     ensures { λ r. ⌜ Printed (now (out .entry)) (report (now (input .entry))) (now (out .exit)) r ⌝ }
     ensures { λ r. ⌜ FoundingDemand3 (recordsFrom (now (input .entry)) 0) ⌝ }
 {
-    report_from(Policy::initial(), input, out)
+    let told = report_from(Policy::initial(), input, out);
+    told.written
 }
 
 // The report, for an input of at most 65,536 bytes; for a longer one the line that says so.

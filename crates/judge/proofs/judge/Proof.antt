@@ -2,6 +2,7 @@
 use mathlib.Core.Path.{_≡_, refl, ap, _∙_}
 use mathlib.Core.List.{List}
 use Prim.Native.Nat.{ℕ}
+use native.Mathlib.Omega.{arith}
 use denote.Ref.{now}
 use Rattle.reach.specs.declared.Policy.{Policy}
 use Rattle.reach.specs.Tables.{Sized}
@@ -40,13 +41,13 @@ returns c =
     both _ _
     (c .answer .ensures
     ∙ ap (λ (n : Policy). answered n (d .before .verdict .result)) (c .before .after .ensures)
-    ∙ judge-accepts _ _ (judged (d .before)) (d .code-of .ensures) (c .before .before .if1 .taken)
+    ∙ judge-accepts _ _ (judged (d .before)) (d .code-of .ensures) (omega (arith, c .before .before .if1 .taken))
     (d .before .before .before .before .request-of .ensures))
 
 returns-2 : tie.Need-returns-2
 returns-2 c =
     let d = c .before .before in
-    both _ _ (c .answer2 .ensures ∙ judge-refuses _ _ (judged (d .before)) (d .code-of .ensures) (c .before .if1 .left))
+    both _ _ (c .answer2 .ensures ∙ judge-refuses _ _ (judged (d .before)) (d .code-of .ensures) (λ z. omega (arith, c .before .if1 .left, z)))
 
 pub judge-spec : {M : Type 1} → statement M
 judge-spec =

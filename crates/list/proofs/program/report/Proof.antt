@@ -6,9 +6,7 @@ use Rattle.list.proofs.program.report.Statement.{statement}
 use Rattle.list.proofs.program.report.Tie as tie
 
 returns : tie.Need-returns
-returns c =
-    let told = c .before .before in
-    (printed-founding _ _ (told .before .before .initial .ensures) (told .report-from .ensures), third _)
+returns c = search (needs, printed-founding, third)
 
 pub report-spec : {M : Type 1} → statement M
 report-spec =

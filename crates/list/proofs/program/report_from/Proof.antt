@@ -5,7 +5,7 @@ use native.Mathlib.Omega.{arith}
 use lib.ListN.{length}
 use denote.Ref.{now}
 use Rattle.frame.specs.declared.Step.the-variants.{Record}
-use Rattle.frame.specs.Reading.{stepAt, placeAfter}
+use Rattle.frame.specs.Reading.{stepAt}
 use Rattle.frame.proofs.Steps.{Found, step-record}
 use Rattle.list.proofs.Reporting.{Reporting, reporting-start, reporting-record, reporting-torn, reporting-end}
 use Rattle.text.specs.Text.{Bytes}
@@ -43,7 +43,7 @@ abbrev told : tie.After-read-after Inv-loop μ-loop → tie.After-known-told Inv
 told c = c .before .before .before .before .before .before .before .before .before .before
 
 moved : (c : tie.After-read-after Inv-loop μ-loop) → c .read-after .result ≡ told c .before .start .given .0 .1 .1 .0
-moved c = c .read-after .ensures ∙ ap (placeAfter _) (record-at (told c))
+moved c = simp (c .read-after .ensures, found (told c) .starts, record-at (told c))
 
 loop-holds : tie.Need-loop-holds Inv-loop μ-loop
 loop-holds c = reporting-start _ _ _
@@ -73,7 +73,7 @@ loop-again c =
     let judged = coded .before .before in
     let t = told c in
     reporting-record _ _ _ (t .before .before .before .before .loop .inv) _ _ _ (record-at t)
-    (judged .judge .ensures .0) (coded .code-of .ensures) (cited .cited-of .ensures) (put .put-line .ensures) (c .read-after .ensures)
+    (judged .judge .ensures .0) (coded .code-of .ensures) (cited .cited-of .ensures) (put .put-line .ensures) (moved c)
 
 same-length : tie.Need-same-length Inv-loop μ-loop
 same-length c =
