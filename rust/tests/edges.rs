@@ -1,5 +1,5 @@
-//! The sample of document 01, the edges of the runner's report, those of the two functions for
-//! C, and the picture of a sheet.
+//! The sample of document 01, the edges of the runner's report, those of `selkaum_report` and
+//! `selkaum_judge`, and the picture of a sheet.
 
 use beside::board::{self, ANSWER};
 use beside::generate::{self, Profile, Rng};

@@ -24,7 +24,7 @@ returns-2 : tie.Need-returns-2
 returns-2 c =
     let ran = c .before .before .before .before .before .before in
     let room = ran .before .before .before in (
-      not-run _ _ _ _ _ (omega (arith, room .if1 .left)) (ran .run-list .ensures .0) (not-true _ (c .if2 .taken)),
+      not-run _ _ _ _ (ran .run-list .result) (omega (arith, room .if1 .left)) (search needs) (not-true _ (c .if2 .taken)),
       ran .run-list .ensures .1,
     )
 
@@ -46,7 +46,7 @@ returns-3 c =
     let tested = drawn .before .before .before in
     let ran = tested .before .before .before .before .before .before in
     let room = ran .before .before .before in (
-      has-run _ _ _ _ _ (omega (arith, room .if1 .left)) (ran .run-list .ensures .0) (not-false _ (tested .if2 .left))
+      has-run _ _ _ _ (ran .run-list .result) (omega (arith, room .if1 .left)) (search needs) (not-false _ (tested .if2 .left))
           (drawn .put-policy .ensures),
       ran .run-list .ensures .1,
     )

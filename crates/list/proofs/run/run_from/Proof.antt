@@ -22,13 +22,13 @@ abbrev μ-loop : tie.MeasureT-loop
 μ-loop bytes ends codes₀ cited₀ current₀ start₀ i₀ codes cited current start i = length ends - i
 
 returns : tie.Need-returns Inv-loop μ-loop
-returns c = too-few-codes _ _ _ _ _ (c .if1 .taken)
+returns c = too-few-codes _ _ _ _ _ (omega (arith, c .if1 .taken))
 
 returns-2 : tie.Need-returns-2 Inv-loop μ-loop
-returns-2 c = too-few-cited _ _ _ _ _ (c .if2 .taken)
+returns-2 c = too-few-cited _ _ _ _ _ (omega (arith, c .if2 .taken))
 
 loop-holds : tie.Need-loop-holds Inv-loop μ-loop
-loop-holds c = running-start _ _ _ _ _ (c .before .if1 .left) (c .if2 .left)
+loop-holds c = running-start _ _ _ _ _ (omega (arith, c .before .if1 .left)) (omega (arith, c .if2 .left))
 
 mul-end : tie.Need-mul-end Inv-loop μ-loop
 mul-end c = search needs
