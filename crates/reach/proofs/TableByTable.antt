@@ -1,4 +1,4 @@
--- Each successor of a policy, table by table: a table that its change names is written as on its own, and the others stay as they are.
+-- Successors of a policy, table by table: a table that a change names is written as on its own, and the others stay as they are.
 -- Where a change tests its numbers, it writes all its tables or none by one test, and each table by itself is written by the same test.
 use mathlib.Core.Path.{_≡_, refl, sym, ap}
 use mathlib.Core.Bool.{Bool, true, false}
@@ -6,11 +6,10 @@ use Prim.Native.Nat.{ℕ}
 use lib.ListN.{set}
 use Rattle.reach.specs.declared.Policy.{Policy}
 use Rattle.reach.specs.declared.Appointment.{Appointment}
-use Rattle.reach.specs.declared.AccessRule.{AccessRule}
 use Rattle.reach.specs.Tests.{_⇒_∥_}
 use Rattle.reach.specs.Successors.{withMembers, withSorts, onTable, addTo, removeFrom, cleared}
 use Rattle.reach.specs.Successors.{sortedAs, madeIn, putInto, takenFrom}
-use Rattle.reach.specs.Successors.{put, taken, made, appointed, ruled}
+use Rattle.reach.specs.Successors.{put, taken, made, appointed}
 
 -- MAKE changes the sorts and the members, each as on its own table.
 pub made-is : (p : Policy) (x k g : ℕ)
@@ -24,18 +23,6 @@ made-is p x k g = either (onTable x g)
     either true = refl
     either false = refl
 
-pub made-sorts : (p : Policy) (x k g : ℕ) → made p x k g .sorts ≡ sortedAs (p .sorts) x k g
-made-sorts p x k g = sym (ap (λ (q : Policy). q .sorts) (made-is p x k g))
-
-pub made-members : (p : Policy) (x k g : ℕ) → made p x k g .members ≡ madeIn (p .members) x g
-made-members p x k g = sym (ap (λ (q : Policy). q .members) (made-is p x k g))
-
-pub made-appointments : (p : Policy) (x k g : ℕ) → made p x k g .appointments ≡ p .appointments
-made-appointments p x k g = sym (ap (λ (q : Policy). q .appointments) (made-is p x k g))
-
-pub made-rules : (p : Policy) (x k g : ℕ) → made p x k g .rules ≡ p .rules
-made-rules p x k g = sym (ap (λ (q : Policy). q .rules) (made-is p x k g))
-
 -- PUT changes the members alone, as on their own table.
 pub put-is : (p : Policy) (x g : ℕ) → withMembers p (putInto (p .members) x g) ≡ put p x g
 unfolding put
@@ -46,9 +33,6 @@ put-is p x g = either (onTable x g)
         ≡ (t ⇒ withMembers p (addTo (p .members) x g) ∥ p)
     either true = refl
     either false = refl
-
-pub put-members : (p : Policy) (x g : ℕ) → put p x g .members ≡ putInto (p .members) x g
-put-members p x g = sym (ap (λ (q : Policy). q .members) (put-is p x g))
 
 pub put-appointments : (p : Policy) (x g : ℕ) → put p x g .appointments ≡ p .appointments
 put-appointments p x g = sym (ap (λ (q : Policy). q .appointments) (put-is p x g))
@@ -73,9 +57,6 @@ taken-members p x g = sym (ap (λ (q : Policy). q .members) (taken-is p x g))
 pub taken-appointments : (p : Policy) (x g : ℕ) → taken p x g .appointments ≡ p .appointments
 taken-appointments p x g = sym (ap (λ (q : Policy). q .appointments) (taken-is p x g))
 
-pub taken-rules : (p : Policy) (x g : ℕ) → taken p x g .rules ≡ p .rules
-taken-rules p x g = sym (ap (λ (q : Policy). q .rules) (taken-is p x g))
-
 -- APPOINT and DISMISS change the appointments alone.
 pub appointed-members : (p : Policy) (i : ℕ) (w : Appointment) → appointed p i w .members ≡ p .members
 unfolding appointed
@@ -85,24 +66,7 @@ pub appointed-appointments : (p : Policy) (i : ℕ) (w : Appointment) → appoin
 unfolding appointed
 appointed-appointments p i w = refl
 
-pub appointed-rules : (p : Policy) (i : ℕ) (w : Appointment) → appointed p i w .rules ≡ p .rules
-unfolding appointed
-appointed-rules p i w = refl
-
--- GRANT and WITHDRAW change the rules alone.
-pub ruled-members : (p : Policy) (i : ℕ) (r : AccessRule) → ruled p i r .members ≡ p .members
-unfolding ruled
-ruled-members p i r = refl
-
-pub ruled-appointments : (p : Policy) (i : ℕ) (r : AccessRule) → ruled p i r .appointments ≡ p .appointments
-unfolding ruled
-ruled-appointments p i r = refl
-
-pub ruled-rules : (p : Policy) (i : ℕ) (r : AccessRule) → ruled p i r .rules ≡ set (p .rules) i r
-unfolding ruled
-ruled-rules p i r = refl
-
--- Every change but MAKE leaves the sorts as they are.
+-- PUT, TAKE, APPOINT and DISMISS leave the sorts as they are.
 pub put-sorts : (p : Policy) (x g : ℕ) → put p x g .sorts ≡ p .sorts
 put-sorts p x g = sym (ap (λ (q : Policy). q .sorts) (put-is p x g))
 
@@ -112,7 +76,3 @@ taken-sorts p x g = sym (ap (λ (q : Policy). q .sorts) (taken-is p x g))
 pub appointed-sorts : (p : Policy) (i : ℕ) (w : Appointment) → appointed p i w .sorts ≡ p .sorts
 unfolding appointed
 appointed-sorts p i w = refl
-
-pub ruled-sorts : (p : Policy) (i : ℕ) (r : AccessRule) → ruled p i r .sorts ≡ p .sorts
-unfolding ruled
-ruled-sorts p i r = refl
