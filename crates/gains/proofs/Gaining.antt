@@ -178,10 +178,10 @@ module _ (p : Policy) (u i w t o : ℕ) (a : Authorised p u (Grant i w t o)) whe
       ⊎-elim (n .lacked) (λ b. out (b .2)) (granted (subst (λ (v : View). Permitted v u k x) granted-view (n .has)))
 
   -- One who is gets what the operations and the targets say: the tables before and after tell.
-  module _ {l : List AccessRule} {rows had got : List ℕ} {all set : ℕ} (q : p .rules ≡ l) (c : ClosureOf p rows)
-      (m : SetOf all (Target (view p))) (among : Under (view p) u w)
+  module _ {l : List AccessRule} {rows had got : List ℕ} {all each set : ℕ} (q : p .rules ≡ l) (c : ClosureOf p rows)
+      (m : SetOf all (Target (view p))) (n : SetOf each (Target (view p))) (among : Under (view p) u w)
       (h : TableOf 8 had (λ k x. Some 64 (PermittedAt l rows all u k x))) (b : set ≡ getD rows t 0)
-      (j : Joined 8 had (λ k x. (bit o k ≡ 1) × (bit (bitAnd set all) x ≡ 1)) got) where
+      (j : Joined 8 had (λ k x. (bit o k ≡ 1) × (bit (bitAnd set each) x ≡ 1)) got) where
     before : TableOf 8 had (λ k x. Permitted (view p) u k x)
     before = permitted-table p rows c q user m h
 
@@ -197,7 +197,7 @@ module _ (p : Policy) (u i w t o : ℕ) (a : Authorised p u (Grant i w t o)) whe
               (⊎-elim
               (λ y. kept (before .row k l .only x y))
               (λ y.
-              let z = set-mask set m .only x (y .1) in
+              let z = set-mask set n .only x (y .1) in
               permits i (fit .0) l (z .1) (at-place refl)
               (refl, y .0, among, in-under p rows c (ap (λ (s : ℕ). bit s x) (sym b) ∙ z .0)))
               s))
@@ -205,7 +205,7 @@ module _ (p : Policy) (u i w t o : ℕ) (a : Authorised p u (Grant i w t o)) whe
               let z = subst (λ (v : View). Permitted v u k x) granted-view s in
               ⊎-elim
               (λ y. inl (before .row k l .all x y))
-              (λ y. inr (y .1, set-mask set m .all x (ap (λ (s : ℕ). bit s x) b ∙ under-in p rows c (y .3), z .target)))
+              (λ y. inr (y .1, set-mask set n .all x (ap (λ (s : ℕ). bit s x) b ∙ under-in p rows c (y .3), z .target)))
               (granted z));
         }
 

@@ -106,14 +106,15 @@ module _ (p : Policy) (u x g : ℕ) (o : Authorised p u (Put x g)) {rows : List 
 
   -- The first one that the table after PUT has and the table before lacks is the first that he gains.
   module _ {r : List ℕ} (j : Joined 64 rows (λ a y. In rows a g × In rows x y) r)
-      {l : List AccessRule} {had got : List ℕ} {all : ℕ} (q : p .rules ≡ l) (m : SetOf all (Target (view p)))
+      {l : List AccessRule} {had got : List ℕ} {all each : ℕ} (q : p .rules ≡ l)
+      (m : SetOf all (Target (view p))) (n : SetOf each (Target (view p)))
       (h : TableOf 8 had (λ k x. Some 64 (PermittedAt l rows all u k x)))
-      (f : TableOf 8 got (λ k x. Some 64 (PermittedAt l r all u k x))) where
+      (f : TableOf 8 got (λ k x. Some 64 (PermittedAt l r each u k x))) where
     permitted-after : TableOf 8 got (λ k y. Permitted (view (after p (Put x g))) u k y)
     unfolding after
     permitted-after =
         permitted-table (after p (Put x g)) r (put-closure p u x g o k j) (put-rules p x g ∙ q) (user-after p u x g o k)
-        (subst (λ (v : View). SetOf all (Target v)) (sym (put-view p u x g o k)) (set-as m (λ y t. t) (λ y t. t)))
+        (subst (λ (v : View). SetOf each (Target v)) (sym (put-view p u x g o k)) (set-as n (λ y t. t) (λ y t. t)))
         f
 
     old : (y : ℕ) → Target (view (after p (Put x g))) y → InUse (view p) y

@@ -2,8 +2,9 @@
 -- that is new in the sender's table is the first gained.
 use borrow.Author.Tests.{not-true}
 use Rattle.reach.proofs.Testing.{decides-at, decides-eqb, decides-and, decides-not, refuted}
-use Rattle.reach.proofs.WordSets.{has-decides}
+use Rattle.reach.proofs.WordSets.{set-at, has-decides}
 use Rattle.gains.proofs.Opening.{no-target, no-permission, put-first}
+use native.Mathlib.Omega.{arith}
 use borrow.Author.Needs.{needs}
 use Rattle.gains.proofs.putting.put_permission.Statement.{statement}
 use Rattle.gains.proofs.putting.put_permission.Tie as tie
@@ -44,7 +45,9 @@ returns-3 : tie.Need-returns-3
 returns-3 c p m k q o =
     let got = c .before in
     let had = got .before .before in
-    put-first p _ _ _ o k (had .before .put-rows .ensures) q (m .targets) (had .permitted .ensures) (got .permitted2 .ensures)
+    put-first p _ _ _ o k (had .before .put-rows .ensures) q
+    (set-at (omega arith) (m .targets)) (set-at (omega arith) (m .targets))
+    (had .permitted .ensures) (got .permitted2 .ensures)
     (c .gained .result) (c .gained .ensures)
 
 pub put-permission-spec : {M : Type 1} → statement M
