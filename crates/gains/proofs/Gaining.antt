@@ -16,7 +16,7 @@ use Rattle.reach.specs.declared.AccessRule.{AccessRule}
 use Rattle.reach.specs.Words.{bit, SetOf, TableOf}
 use Rattle.reach.specs.Tests.{Some, Decides}
 use Rattle.reach.specs.Tables.{View, view}
-use Rattle.reach.specs.Reach.{User, Target, Under}
+use Rattle.reach.specs.Reach.{InUse, User, Target, Under}
 use Rattle.reach.specs.Privileges.{owner, manager, Permitted}
 use Rattle.reach.specs.Surveys.{ClosureOf}
 use Rattle.reach.specs.Changes.{viewAppointed, viewRuled}
@@ -29,15 +29,18 @@ use Rattle.rules.specs.declared.Request.the-variants.{Grant}
 use Rattle.rules.specs.Authority.{may}
 use Rattle.rules.specs.Doing.{after}
 use Rattle.rules.specs.Refusals.{noAuthority, ownGain}
-use Rattle.rules.specs.Allowing.{Privilege, owning, managing, administering, permission, Has, Gives, Fits, MayAppoint, appointing}
+use Rattle.rules.specs.Allowing.{Privilege, owning, managing, administering, permission, Has, There, Gives, Fits, MayAppoint, appointing}
 use Rattle.rules.proofs.Giving.{gives-decides}
 use Rattle.rules.proofs.Fitting.{fits, may-appoint-decides}
 use Rattle.rules.proofs.Reading.{view-after}
 use Rattle.rules.proofs.Readings.{OwnAppointment, AppointGains, appoint-own-gain}
-use Rattle.rows.specs.declared.Gain.the-variants.{Permission, Nothing}
+use Rattle.rules.specs.Gains.{gives}
+use Rattle.rows.specs.declared.Gain.{Gain}
 use Rattle.rules.specs.Cleared.{Cleared, Authorised}
 use Rattle.rows.specs.Rows.{PermittedAt, Joined, FirstNew}
-use Rattle.rows.proofs.Surveyed.{NewAt, in-under, under-in, permitted-table, gain-new, no-gain-new}
+use Rattle.rows.proofs.Surveyed.{NewAt, in-under, under-in, permitted-table}
+use Rattle.gains.specs.Giving.{ComesToUse, FirstPermission}
+use Rattle.gains.proofs.FirstFound.{permitted-there, first-permission}
 
 or-false : {a b : Bool} → a ≡ false → b ≡ false → (a || b) ≡ false
 or-false e f = rw (e, f)
@@ -46,21 +49,24 @@ or-false e f = rw (e, f)
 pub fits-of : (p : Policy) (q : Request) → Cleared p q → Fits (view p) q
 fits-of p q z = fits p q .sound (or-false (or-false (or-false (z .on-sheet) (z .present)) (z .sorted)) (z .fresh))
 
--- A change of rules gives its sender a privilege exactly if it gives him a permission.
-rule-gains : (v : View) (i : ℕ) (r : AccessRule) (u : ℕ) → User v u → Gives v (viewRuled v i r) u
-    → (k : ℕ) × (x : ℕ) × NewAt (Permitted v u) (Permitted (viewRuled v i r) u) k x
-rule-gains v i r u e g = go (g .what) (g .has) (g .lacked)
-  where
-    go : (w : Privilege) → Has (viewRuled v i r) u w → (Has v u w → ⊥)
-        → (k : ℕ) × (x : ℕ) × NewAt (Permitted v u) (Permitted (viewRuled v i r) u) k x
-    go (owning x) h n = absurd (n (holds-carried (ruled-carries-back v i r) e (known-kind owner (omega arith) (omega arith)) tt h))
-    go (managing x) h n = absurd (n (holds-carried (ruled-carries-back v i r) e (known-kind manager (omega arith) (omega arith)) tt h))
-    go (administering a b) h n = absurd (n (administers-carried (ruled-carries-back v i r) e tt tt h))
-    go (permission k x) h n = (k, x, (h, n))
+-- A permission that a request gives is a privilege that it gives.
+pub gain-found : (p : Policy) (u : ℕ) (q : Request) {x k : ℕ} → ComesToUse p u q x k → true ≡ gives p (after p q) u
+gain-found p u q {x} {k} w =
+    sym
+    (gives-decides p (after p q) u .complete
+    (record { what = permission k x; there = w .there; has = w .has; lacked = w .lacked }))
 
-gains-rule : (v : View) (i : ℕ) (r : AccessRule) (u k x : ℕ) → NewAt (Permitted v u) (Permitted (viewRuled v i r) u) k x
-    → Gives v (viewRuled v i r) u
-gains-rule v i r u k x w = record { what = permission k x; there = omega (arith, w .0 .target); has = w .0; lacked = w .1 }
+-- A change of rules gives its sender a privilege only if it gives him a permission.
+rule-gains : (v : View) (i : ℕ) (r : AccessRule) (u : ℕ) → User v u → Gives v (viewRuled v i r) u
+    → (k : ℕ) × (x : ℕ) × InUse v x × NewAt (Permitted v u) (Permitted (viewRuled v i r) u) k x
+rule-gains v i r u e g = go (g .what) (g .there) (g .has) (g .lacked)
+  where
+    go : (w : Privilege) → There v w → Has (viewRuled v i r) u w → (Has v u w → ⊥)
+        → (k : ℕ) × (x : ℕ) × InUse v x × NewAt (Permitted v u) (Permitted (viewRuled v i r) u) k x
+    go (owning x) t h n = absurd (n (holds-carried (ruled-carries-back v i r) e (known-kind owner (omega arith) (omega arith)) tt h))
+    go (managing x) t h n = absurd (n (holds-carried (ruled-carries-back v i r) e (known-kind manager (omega arith) (omega arith)) tt h))
+    go (administering a b) t h n = absurd (n (administers-carried (ruled-carries-back v i r) e tt tt h))
+    go (permission k x) t h n = (k, x, t, (h, n))
 
 -- ---- GRANT
 
@@ -80,29 +86,24 @@ module _ (p : Policy) (u i w t o : ℕ) (a : Authorised p u (Grant i w t o)) whe
   granted-view : view (after p (Grant i w t o)) ≡ new
   granted-view = view-after p (a .sized) (Grant i w t o) fit
 
-  -- A permission that is new is own gain, and where none is new there is none.
-  grant-gain : (k x : ℕ) → NewAt (Permitted (view p) u) (Permitted (view (after p (Grant i w t o))) u) k x
-      → true ≡ ownGain p u (Grant i w t o)
+  -- A permission that he comes to have is own gain, and where there is none there is no own gain.
+  pub grant-gain : {x k : ℕ} → ComesToUse p u (Grant i w t o) x k → true ≡ ownGain p u (Grant i w t o)
   unfolding ownGain
-  grant-gain k x n =
-      sym
-      (gives-decides p (after p (Grant i w t o)) u .complete
-      (subst
-      (λ (v : View). Gives (view p) v u)
-      (sym granted-view)
-      (gains-rule (view p) i _ u k x (subst (λ (v : View). NewAt (Permitted (view p) u) (Permitted v u) k x) granted-view n))))
+  grant-gain n = gain-found p u (Grant i w t o) n
 
-  grant-no-gain : ((k x : ℕ) → k < 8 → NewAt (Permitted (view p) u) (Permitted (view (after p (Grant i w t o))) u) k x → ⊥)
-      → false ≡ ownGain p u (Grant i w t o)
+  pub grant-no-gain : ((x k : ℕ) → ComesToUse p u (Grant i w t o) x k → ⊥) → false ≡ ownGain p u (Grant i w t o)
   unfolding ownGain
   grant-no-gain n =
       sym
       (fails _ (gives-decides p (after p (Grant i w t o)) u)
       (λ g.
       let r = rule-gains (view p) i _ u user (subst (λ (v : View). Gives (view p) v u) granted-view g) in
-      let f : NewAt (Permitted (view p) u) (Permitted (view (after p (Grant i w t o))) u) (r .0) (r .1) =
-      subst (λ (v : View). NewAt (Permitted (view p) u) (Permitted v u) (r .0) (r .1)) (sym granted-view) (r .2) in
-      n (r .0) (r .1) (f .0 .number) f))
+      n (r .1) (r .0)
+      (record {
+        there = r .2;
+        has = subst (λ (v : View). Permitted v u (r .0) (r .1)) (sym granted-view) (r .3 .0);
+        lacked = r .3 .1;
+      })))
 
   -- What a rule permits the sender, on the view before.
   abbrev Permits : AccessRule → ℕ → ℕ → Type 0
@@ -172,17 +173,15 @@ module _ (p : Policy) (u i w t o : ℕ) (a : Authorised p u (Grant i w t o)) whe
       (s .at .used, s .at .operation, s .at .covers-user, s .at .covers-target)
 
   -- A sender who is not among the users of the rule gains nothing.
-  pub grant-outside : (Under (view p) u w → ⊥) → false ≡ ownGain p u (Grant i w t o)
-  grant-outside out =
-      grant-no-gain
-      (λ k x l n.
-      ⊎-elim (n .1) (λ b. out (b .2)) (granted (subst (λ (v : View). Permitted v u k x) granted-view (n .0))))
+  pub grant-outside : (Under (view p) u w → ⊥) → (x k : ℕ) → ComesToUse p u (Grant i w t o) x k → ⊥
+  grant-outside out x k n =
+      ⊎-elim (n .lacked) (λ b. out (b .2)) (granted (subst (λ (v : View). Permitted v u k x) granted-view (n .has)))
 
   -- One who is gets what the operations and the targets say: the tables before and after tell.
-  module _ {l : List AccessRule} {rows had got : List ℕ} {all set : ℕ} (q : p .rules ≡ l) (c : ClosureOf p rows)
-      (m : SetOf all (Target (view p))) (among : Under (view p) u w)
+  module _ {l : List AccessRule} {rows had got : List ℕ} {all each set : ℕ} (q : p .rules ≡ l) (c : ClosureOf p rows)
+      (m : SetOf all (Target (view p))) (n : SetOf each (Target (view p))) (among : Under (view p) u w)
       (h : TableOf 8 had (λ k x. Some 64 (PermittedAt l rows all u k x))) (b : set ≡ getD rows t 0)
-      (j : Joined 8 had (λ k x. (bit o k ≡ 1) × (bit (bitAnd set all) x ≡ 1)) got) where
+      (j : Joined 8 had (λ k x. (bit o k ≡ 1) × (bit (bitAnd set each) x ≡ 1)) got) where
     before : TableOf 8 had (λ k x. Permitted (view p) u k x)
     before = permitted-table p rows c q user m h
 
@@ -198,7 +197,7 @@ module _ (p : Policy) (u i w t o : ℕ) (a : Authorised p u (Grant i w t o)) whe
               (⊎-elim
               (λ y. kept (before .row k l .only x y))
               (λ y.
-              let z = set-mask set m .only x (y .1) in
+              let z = set-mask set n .only x (y .1) in
               permits i (fit .0) l (z .1) (at-place refl)
               (refl, y .0, among, in-under p rows c (ap (λ (s : ℕ). bit s x) (sym b) ∙ z .0)))
               s))
@@ -206,15 +205,15 @@ module _ (p : Policy) (u i w t o : ℕ) (a : Authorised p u (Grant i w t o)) whe
               let z = subst (λ (v : View). Permitted v u k x) granted-view s in
               ⊎-elim
               (λ y. inl (before .row k l .all x y))
-              (λ y. inr (y .1, set-mask set m .all x (ap (λ (s : ℕ). bit s x) b ∙ under-in p rows c (y .3), z .target)))
+              (λ y. inr (y .1, set-mask set n .all x (ap (λ (s : ℕ). bit s x) b ∙ under-in p rows c (y .3), z .target)))
               (granted z));
         }
 
-    pub grant-found : (x k : ℕ) → FirstNew had got (Permission x k) → true ≡ ownGain p u (Grant i w t o)
-    grant-found x k f = grant-gain k x (gain-new x k before then f)
+    old : (x : ℕ) → Target (view (after p (Grant i w t o))) x → InUse (view p) x
+    old x s = let e : view p .sort x ≡ 3 = ap (λ (v : View). v .sort x) (sym granted-view) ∙ s in omega (arith, e)
 
-    pub grant-none : FirstNew had got Nothing → false ≡ ownGain p u (Grant i w t o)
-    grant-none f = grant-no-gain (no-gain-new before then f)
+    pub grant-first : (f : Gain) → FirstNew had got f → FirstPermission p u (Grant i w t o) f
+    grant-first = first-permission p u (Grant i w t o) before (permitted-there p u (Grant i w t o) old then)
 
 -- ---- APPOINT
 

@@ -1,29 +1,28 @@
--- PUT is own gain if its sender comes to hold something by it, and else exactly if he comes to be permitted something. For own gain is a
+-- PUT is own gain if its sender comes to hold something by it, or to be permitted something, and else it is not. For own gain is a
 -- privilege after PUT that he lacked before it, and a privilege is to own, to manage, to administer or to be permitted.
 use mathlib.Core.Path.{_≡_, sym, subst}
-use mathlib.Core.Bool.{Bool, true}
+use mathlib.Core.Bool.{true, false}
 use mathlib.Core.List.{List}
 use mathlib.Core.Logic.{inl, inr}
 use Prim.Native.Nat.{ℕ}
-use native.Mathlib.Omega.{arith}
 use Rattle.reach.specs.declared.Policy.{Policy}
-use Rattle.reach.specs.Tests.{Decides}
 use Rattle.reach.specs.Tables.{View, view}
-use Rattle.reach.specs.Privileges.{owner, manager, Holds, Administers, Permitted}
+use Rattle.reach.specs.Privileges.{owner, manager, Holds, Administers}
 use Rattle.reach.specs.Surveys.{ClosureOf}
 use Rattle.reach.specs.Changes.{viewPut}
-use Rattle.reach.proofs.Testing.{decides-as, decides-same}
+use Rattle.reach.proofs.Testing.{fails}
 use Rattle.reach.proofs.Reaching.{under-lower}
 use Rattle.reach.proofs.Chains.{in-use-below}
 use Rattle.rules.specs.declared.Request.the-variants.{Put}
 use Rattle.rules.specs.Doing.{after}
 use Rattle.rules.specs.Refusals.{ownGain}
-use Rattle.rules.specs.Allowing.{Privilege, owning, managing, administering, permission, Has, Gives}
+use Rattle.rules.specs.Allowing.{Privilege, owning, managing, administering, permission, Has, There, Gives}
 use Rattle.rules.proofs.Giving.{gives-decides}
 use Rattle.rules.specs.Cleared.{Authorised}
-use Rattle.gains.specs.Giving.{NewHeld, NewHolding, NewPermission}
+use Rattle.gains.specs.Giving.{NewHeld, NewHolding, ComesToUse}
 use Rattle.rows.proofs.Surveyed.{NewAt}
 use Rattle.gains.proofs.AfterPut.{put-view}
+use Rattle.gains.proofs.Gaining.{gain-found}
 
 module _ (p : Policy) (u x g : ℕ) (o : Authorised p u (Put x g)) {rows : List ℕ} (k : ClosureOf p rows) where
   -- ---- Each kind of gain is one
@@ -55,44 +54,32 @@ module _ (p : Policy) (u x g : ℕ) (o : Authorised p u (Put x g)) {rows : List 
         lacked = h .1;
       })
 
-  permission-gives : NewPermission p u (Put x g) → Gives (view p) (viewPut (view p) x g) u
-  permission-gives w =
-      let h =
-      subst (λ (v : View). NewAt (Permitted (view p) u) (Permitted v u) (w .place) (w .at .place)) (put-view p u x g o k) (w .at .at) in
-      record { what = permission (w .place) (w .at .place); there = omega (arith, h .0 .target); has = h .0; lacked = h .1 }
+  pub permission-new : {y i : ℕ} → ComesToUse p u (Put x g) y i → true ≡ ownGain p u (Put x g)
+  unfolding ownGain
+  permission-new w = gain-found p u (Put x g) w
 
   -- ---- And there is no other
 
-  -- Where nothing that he holds is new, own gain is what decides the permissions.
-  pub put-gain : (NewHolding p u (Put x g) → ⊥) → {t : Bool} → Decides t (NewPermission p u (Put x g)) → t ≡ ownGain p u (Put x g)
+  -- Where nothing that he holds is new, and no permission is, there is no own gain.
+  pub put-no-gain : (NewHolding p u (Put x g) → ⊥) → ((y i : ℕ) → ComesToUse p u (Put x g) y i → ⊥) → false ≡ ownGain p u (Put x g)
   unfolding ownGain
-  put-gain none {t} d =
-      decides-same t _ d
-      (decides-as
-      (gives-decides p (after p (Put x g)) u)
-      (λ i. on (i .what) (i .has) (i .lacked))
-      (λ w. subst (λ (v : View). Gives (view p) v u) (sym (put-view p u x g o k)) (permission-gives w)))
+  put-no-gain none no-use =
+      sym (fails _ (gives-decides p (after p (Put x g)) u) (λ i. on (i .what) (i .there) (i .has) (i .lacked)))
     where
       held : (kind y : ℕ) → Holds (view (after p (Put x g))) kind u y → (Holds (view p) kind u y → ⊥) → NewHeld kind p u (Put x g)
       held kind y has lacked =
           record { place = y; low = in-use-below (after p (Put x g)) y (under-lower (has .by .at .covers)); at = (has, lacked) }
 
-      on : (what : Privilege) → Has (view (after p (Put x g))) u what → (Has (view p) u what → ⊥) → NewPermission p u (Put x g)
-      on (owning y) has lacked = absurd (none (inl (held owner y has lacked)))
-      on (managing y) has lacked = absurd (none (inr (inl (held manager y has lacked))))
-      on (administering a c) has lacked =
-          absurd
-          (none
+      on : (what : Privilege) → There (view p) what → Has (view (after p (Put x g))) u what → (Has (view p) u what → ⊥) → ⊥
+      on (owning y) there has lacked = none (inl (held owner y has lacked))
+      on (managing y) there has lacked = none (inr (inl (held manager y has lacked)))
+      on (administering a c) there has lacked =
+          none
           (inr
           (inr
           (record {
             place = a;
             low = in-use-below (after p (Put x g)) a (under-lower (has .by .at .covers-a));
             at = record { place = c; low = in-use-below (after p (Put x g)) c (under-lower (has .by .at .covers-b)); at = (has, lacked) };
-          }))))
-      on (permission i y) has lacked =
-          record {
-            place = i;
-            low = has .number;
-            at = record { place = y; low = in-use-below (after p (Put x g)) y (omega (arith, has .target)); at = (has, lacked) };
-          }
+          })))
+      on (permission i y) there has lacked = no-use y i (record { there = there; has = has; lacked = lacked })

@@ -5,6 +5,7 @@ ghost use Rattle.rules.specs.declared.Request.the-variants.{Appoint, Grant};
 ghost use Rattle.rules.specs.Refusals.{ownGain};
 ghost use Rattle.rules.specs.Cleared.{Authorised};
 ghost use Rattle.rows.specs.Closing.{RowsFor};
+ghost use Rattle.gains.specs.Giving.{FirstPermission};
 use crate::putting::put_gains;
 use reach::AccessRule;
 use reach::Appointment;
@@ -44,7 +45,32 @@ fn appoint_gains(
     false
 }
 
-// GRANT can give permissions alone, and none to a sender who is not among its users.
+// The first permission that GRANT gives its sender: none, if he is not among its users; else the search through the permissions before and
+// after finds it.
+fn grant_permission(
+    members: &[u64; 64],
+    m: Masks,
+    rules: [AccessRule; 64],
+    u: u8,
+    place: u8,
+    users: u8,
+    targets: u8,
+    operations: u8,
+) -> Gain
+    ensures { λ r. ⌜ Whose (now (members .entry)) m (λ p.
+        p .rules ≡ rules → Authorised p u (Grant place users targets operations) →
+        FirstPermission p u (Grant place users targets operations) r) ⌝ }
+{
+    if !has(search(members, m, users), u) {
+        return Gain::Nothing;
+    }
+    let rows = closure(members, m);
+    let had = permitted(rules, &rows, m.targets, u);
+    let got = spread_eight(had, operations as u64, row(&rows, targets) & m.targets);
+    gained(had, got)
+}
+
+// GRANT can give permissions alone: its sender gains, if one is found.
 fn grant_gains(
     members: &[u64; 64],
     m: Masks,
@@ -59,13 +85,7 @@ fn grant_gains(
         p .rules ≡ rules → Authorised p u (Grant place users targets operations) →
         r ≡ ownGain p u (Grant place users targets operations)) ⌝ }
 {
-    if !has(search(members, m, users), u) {
-        return false;
-    }
-    let rows = closure(members, m);
-    let had = permitted(rules, &rows, m.targets, u);
-    let got = spread_eight(had, operations as u64, row(&rows, targets) & m.targets);
-    match gained(had, got) {
+    match grant_permission(members, m, rules, u, place, users, targets, operations) {
         Gain::Permission(x, k) => true,
         Gain::Nothing => false,
     }

@@ -8,7 +8,7 @@ ghost use Rattle.reach.specs.Surveys.{MasksOf, ClosureOf};
 ghost use Rattle.rules.specs.declared.Request.the-variants.{Put};
 ghost use Rattle.rules.specs.Refusals.{ownGain};
 ghost use Rattle.rules.specs.Cleared.{Authorised};
-ghost use Rattle.gains.specs.Giving.{NewPair, NewHolding, NewPermission};
+ghost use Rattle.gains.specs.Giving.{NewPair, NewHolding, FirstPermission};
 ghost use Rattle.gains.specs.Growth.{Grows, AnyGrows, AdminGrows, RuleGrows};
 use reach::AccessRule;
 use reach::Appointment;
@@ -156,35 +156,33 @@ fn holdings_grow(
     pairs_grow(rows, appointments, u, object, group)
 }
 
-// Whether PUT permits its sender more: nothing, if neither a target nor he himself is below the object; else the same with the rules.
-fn permissions_grow(
+// The first permission that PUT gives its sender: none, if neither a target nor he himself is below the object, and none without a rule
+// that grows; else the search through the permissions before and after finds it.
+fn put_permission(
     rows: &[u64; 64],
     m: Masks,
     rules: [AccessRule; 64],
     u: u8,
     object: u8,
     group: u8,
-) -> bool
+) -> Gain
     ensures { λ r. ⌜ ((p : Policy) → MasksOf p m → ClosureOf p (now (rows .entry)) → p .rules ≡ rules →
-        Authorised p u (Put object group) → Decides r (NewPermission p u (Put object group))) ⌝ }
+        Authorised p u (Put object group) → FirstPermission p u (Put object group) r) ⌝ }
 {
     let below = row(rows, object);
     if (below & m.targets == 0) & !has(below, u) {
-        return false;
+        return Gain::Nothing;
     }
     if !rule_grows(rules, rows, u, group, below) {
-        return false;
+        return Gain::Nothing;
     }
     let after = put_rows(rows, object, group);
     let had = permitted(rules, rows, m.targets, u);
     let got = permitted(rules, &after, m.targets, u);
-    match gained(had, got) {
-        Gain::Permission(x, k) => true,
-        Gain::Nothing => false,
-    }
+    gained(had, got)
 }
 
-// PUT gives its sender what is below the object, wherever he has the group; and what follows for permissions.
+// PUT gives its sender what is below the object, wherever he has the group; and the permission, if one is found.
 pub fn put_gains(
     rows: &[u64; 64],
     m: Masks,
@@ -200,5 +198,8 @@ pub fn put_gains(
     if holdings_grow(rows, appointments, u, object, group) {
         return true;
     }
-    permissions_grow(rows, m, rules, u, object, group)
+    match put_permission(rows, m, rules, u, object, group) {
+        Gain::Permission(x, k) => true,
+        Gain::Nothing => false,
+    }
 }

@@ -1,2 +1,3 @@
--- The laws by which the judge's code follows the rules: the order of the checks.
+-- The laws by which the judge's code follows the rules: the order of the checks, and a table worked out row by row.
 pub mod Ordered
+pub mod Filling

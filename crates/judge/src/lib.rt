@@ -6,6 +6,7 @@ ghost use Rattle.rules.specs.Judging.{judge, verdictOn, OneAnswer};
 ghost use Rattle.judge.specs.Answering.{answered};
 
 mod doing;
+mod gaining;
 mod numbers;
 
 use checks::no_authority;
@@ -24,6 +25,7 @@ use forms::torn;
 use forms::unknown;
 use forms::wrong_sort;
 use frame::byte;
+pub use gaining::permission_gained;
 use gains::hand_over;
 use gains::own_gain;
 pub use numbers::cited_of;

@@ -22,8 +22,7 @@ use Rattle.reach.proofs.WordSets.{set-as, set-at, set-none}
 use Rattle.reach.proofs.Reaching.{under-upper}
 use Rattle.reach.proofs.Chains.{in-use-below}
 use Rattle.reach.proofs.AsRead.{appointment-is, rule-is}
-use Rattle.rows.specs.declared.Gain.the-variants.{Permission, Nothing}
-use Rattle.rows.specs.Rows.{In, HeldAt, AdministeredAt, PermittedAt, New, FirstNew}
+use Rattle.rows.specs.Rows.{In, HeldAt, AdministeredAt, PermittedAt, New}
 
 module _ (p : Policy) (rows : List ℕ) (c : ClosureOf p rows) where
   -- Row g is what is under g, past the table too.
@@ -159,10 +158,10 @@ module _ (p : Policy) (rows : List ℕ) (c : ClosureOf p rows) where
 abbrev pub NewAt : (ℕ → ℕ → Type 0) → (ℕ → ℕ → Type 0) → ℕ → ℕ → Type 0
 NewAt P Q a b = Q a b × (P a b → ⊥)
 
-new-at : {P Q : ℕ → Type 0} {had got : ℕ} → SetOf had P → SetOf got Q → {x : ℕ} → New had got x → Q x × (P x → ⊥)
+pub new-at : {P Q : ℕ → Type 0} {had got : ℕ} → SetOf had P → SetOf got Q → {x : ℕ} → New had got x → Q x × (P x → ⊥)
 new-at s t {x} n = (t .only x (n .now), λ w. n .lacked (s .all x w))
 
-at-new : {P Q : ℕ → Type 0} {had got : ℕ} → SetOf had P → SetOf got Q → {x : ℕ} → Q x × (P x → ⊥) → New had got x
+pub at-new : {P Q : ℕ → Type 0} {had got : ℕ} → SetOf had P → SetOf got Q → {x : ℕ} → Q x × (P x → ⊥) → New had got x
 at-new s t {x} w = record { now = t .all x (w .0); lacked = λ b. w .1 (s .only x b) }
 
 pub decides-new-pair : {P Q : ℕ → ℕ → Type 0} {had got : List ℕ} {r : Bool} → TableOf 64 had P → TableOf 64 got Q
@@ -182,12 +181,3 @@ decides-new-pair {P} {Q} s t d =
       low = w .low;
       at = some-map (λ b n. at-new (s .row (w .place) (w .low)) (t .row (w .place) (w .low)) n) (w .at);
     })
-
--- The first gain is one, and where there is none there is none.
-pub gain-new : {P Q : ℕ → ℕ → Type 0} {had got : List ℕ} (x k : ℕ) → TableOf 8 had P → TableOf 8 got Q
-    → FirstNew had got (Permission x k) → NewAt P Q k x
-gain-new x k s t f = new-at (s .row k (f .0)) (t .row k (f .0)) (f .1)
-
-pub no-gain-new : {P Q : ℕ → ℕ → Type 0} {had got : List ℕ} → TableOf 8 had P → TableOf 8 got Q → FirstNew had got Nothing
-    → (k x : ℕ) → k < 8 → NewAt P Q k x → ⊥
-no-gain-new s t f k x l w = f x k l (at-new (s .row k l) (t .row k l) w)

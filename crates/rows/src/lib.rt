@@ -171,48 +171,40 @@ pub fn new_pair(had: [u64; 64], got: [u64; 64]) -> bool
     false
 }
 
+// The targets that are new under some operation.
+fn new_targets(had: [u64; 8], got: [u64; 8]) -> u64
+    ensures { λ r. ⌜ SetOf r (λ x. Some 8 (λ k. New (getD had k 0) (getD got k 0) x)) ⌝ }
+{
+    let mut set: u64 = 0;
+    let mut i: usize = 0;
+    while i < 8 {
+        set |= got[i] & !had[i];
+        i += 1;
+    }
+    set
+}
+
 // The first permission, target by target and operation by operation, that is among the ones and not among the others: the search is left
-// by the label with the pair that it found.
-fn first_gain(had: [u64; 8], got: [u64; 8]) -> Gain
+// by the label with the pair that it found. Targets that are new under no operation are passed over.
+pub fn gained(had: [u64; 8], got: [u64; 8]) -> Gain
     ensures { λ r. ⌜ FirstNew had got r ⌝ }
 {
+    let fresh = new_targets(had, got);
     let mut found = Gain::Nothing;
     let mut x: u8 = 0;
     'search: while x < 64 {
-        let mut k: u8 = 0;
-        while k < 8 {
-            let i = k as usize;
-            if has(got[i] & !had[i], x) {
-                found = Gain::Permission(x, k);
-                break 'search;
+        if has(fresh, x) {
+            let mut k: u8 = 0;
+            while k < 8 {
+                let i = k as usize;
+                if has(got[i] & !had[i], x) {
+                    found = Gain::Permission(x, k);
+                    break 'search;
+                }
+                k += 1;
             }
-            k += 1;
         }
         x += 1;
     }
     found
-}
-
-// Whether some permission is among the ones and not among the others.
-fn any_gain(had: [u64; 8], got: [u64; 8]) -> bool
-    ensures { λ r. ⌜ Decides r (Some 8 (λ k. Some 64 (New (getD had k 0) (getD got k 0)))) ⌝ }
-{
-    let mut i: usize = 0;
-    while i < 8 {
-        if got[i] & !had[i] != 0 {
-            return true;
-        }
-        i += 1;
-    }
-    false
-}
-
-// The first permission gained, or none. Where no operation has a new target, nothing is looked for target by target.
-pub fn gained(had: [u64; 8], got: [u64; 8]) -> Gain
-    ensures { λ r. ⌜ FirstNew had got r ⌝ }
-{
-    if !any_gain(had, got) {
-        return Gain::Nothing;
-    }
-    first_gain(had, got)
 }

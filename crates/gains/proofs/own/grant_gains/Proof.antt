@@ -1,40 +1,13 @@
--- Who is not among the users gains nothing by GRANT. Of one who is, the first new permission is own gain, if there is one.
+-- The sender gains by GRANT exactly if the search has found a permission that he gains.
 use mathlib.Core.Path.{subst}
-use Rattle.reach.proofs.WordSets.{set-outside, set-inside}
-use Rattle.rows.specs.Rows.{FirstNew}
-use Rattle.gains.proofs.Gaining.{grant-outside, grant-found, grant-none}
+use Rattle.gains.specs.Giving.{FirstPermission}
+use Rattle.gains.proofs.Gaining.{grant-gain, grant-no-gain}
 use borrow.Author.Needs.{needs}
 use Rattle.gains.proofs.own.grant_gains.Statement.{statement}
 use Rattle.gains.proofs.own.grant_gains.Tie as tie
 
-search-requires : tie.Need-search-requires
-search-requires c κs = search needs
-
-has-requires : tie.Need-has-requires
-has-requires c κs = search needs
-
-returns : tie.Need-returns
-returns c p l q o =
-    grant-outside p _ _ _ _ _ o
-    (set-outside _ (c .before .has .ensures) (c .if1 .taken) (c .before .before .search .ensures p l))
-
-closure-requires : tie.Need-closure-requires
-closure-requires c κs = search needs
-
-permitted-requires : tie.Need-permitted-requires
-permitted-requires c κs = search needs
-
-slice-aggregate-row : tie.Need-slice-aggregate-row
-slice-aggregate-row c = search needs
-
-row-requires : tie.Need-row-requires
-row-requires c κs = search needs
-
-spread-eight-requires : tie.Need-spread-eight-requires
-spread-eight-requires c κs = search needs
-
-gained-requires : tie.Need-gained-requires
-gained-requires c κs = search needs
+grant-permission-requires : tie.Need-grant-permission-requires
+grant-permission-requires c κs = search needs
 
 enum-known-x : tie.Need-enum-known-x
 enum-known-x c = search needs
@@ -42,40 +15,15 @@ enum-known-x c = search needs
 enum-told : tie.Need-enum-told
 enum-told c = search needs
 
+returns : tie.Need-returns
+returns c p l q o =
+    grant-gain p _ _ _ _ _ o
+    (subst (FirstPermission p _ _) (c .before .x .given .1) (c .before .before .before .grant-permission .ensures p l q o) .0)
+
 returns-2 : tie.Need-returns-2
 returns-2 c p l q o =
-    let row = c .before .before .before .before .before .before in
-    let rows = row .before .before .before .before in
-    let user = rows .before in
-    let among = set-inside _ (user .before .has .ensures) (user .if1 .left) (user .before .before .search .ensures p l) in
-    grant-found p _ _ _ _ _ o q (rows .closure .ensures p l) (l .masks .targets) among (row .before .before .permitted .ensures)
-    (row .row .ensures) (c .before .before .before .before .spread-eight .ensures) _ _
-    (subst (FirstNew _ _) (c .before .x .given .1) (c .before .before .before .gained .ensures))
-
-returns-3 : tie.Need-returns-3
-returns-3 c p l q o =
-    let row = c .before .before .before .before .before in
-    let rows = row .before .before .before .before in
-    let user = rows .before in
-    let among = set-inside _ (user .before .has .ensures) (user .if1 .left) (user .before .before .search .ensures p l) in
-    grant-none p _ _ _ _ _ o q (rows .closure .ensures p l) (l .masks .targets) among (row .before .before .permitted .ensures)
-    (row .row .ensures) (c .before .before .before .spread-eight .ensures)
-    (subst (FirstNew _ _) (c .enum-told .given .1) (c .before .before .gained .ensures))
+    grant-no-gain p _ _ _ _ _ o
+    (subst (FirstPermission p _ _) (c .enum-told .given .1) (c .before .before .grant-permission .ensures p l q o))
 
 pub grant-gains-spec : {M : Type 1} → statement M
-grant-gains-spec =
-    tie.close
-    (tie.spec
-    search-requires
-    has-requires
-    returns
-    closure-requires
-    permitted-requires
-    slice-aggregate-row
-    row-requires
-    spread-eight-requires
-    gained-requires
-    enum-known-x
-    enum-told
-    returns-2
-    returns-3)
+grant-gains-spec = tie.close (tie.spec grant-permission-requires enum-known-x enum-told returns returns-2)

@@ -1,0 +1,62 @@
+-- Who is not among the users gains nothing by GRANT. Of one who is, the first permission that is new in his table is the first gained.
+use Rattle.reach.proofs.WordSets.{set-at, set-outside, set-inside}
+use Rattle.gains.proofs.Gaining.{grant-outside, grant-first}
+use native.Mathlib.Omega.{arith}
+use borrow.Author.Needs.{needs}
+use Rattle.gains.proofs.own.grant_permission.Statement.{statement}
+use Rattle.gains.proofs.own.grant_permission.Tie as tie
+
+search-requires : tie.Need-search-requires
+search-requires c κs = search needs
+
+has-requires : tie.Need-has-requires
+has-requires c κs = search needs
+
+returns : tie.Need-returns
+returns c p l q o =
+    grant-outside p _ _ _ _ _ o
+    (set-outside _ (c .before .has .ensures) (c .if1 .taken) (c .before .before .search .ensures p l))
+
+closure-requires : tie.Need-closure-requires
+closure-requires c κs = search needs
+
+permitted-requires : tie.Need-permitted-requires
+permitted-requires c κs = search needs
+
+slice-aggregate-row : tie.Need-slice-aggregate-row
+slice-aggregate-row c = search needs
+
+row-requires : tie.Need-row-requires
+row-requires c κs = search needs
+
+spread-eight-requires : tie.Need-spread-eight-requires
+spread-eight-requires c κs = search needs
+
+gained-requires : tie.Need-gained-requires
+gained-requires c κs = search needs
+
+returns-2 : tie.Need-returns-2
+returns-2 c p l q o =
+    let row = c .before .before .before in
+    let rows = row .before .before .before .before in
+    let user = rows .before in
+    let among = set-inside _ (user .before .has .ensures) (user .if1 .left) (user .before .before .search .ensures p l) in
+    grant-first p _ _ _ _ _ o q (rows .closure .ensures p l)
+    (set-at (omega arith) (l .masks .targets)) (set-at (omega arith) (l .masks .targets)) among
+    (row .before .before .permitted .ensures) (row .row .ensures) (c .before .spread-eight .ensures)
+    (c .gained .result) (c .gained .ensures)
+
+pub grant-permission-spec : {M : Type 1} → statement M
+grant-permission-spec =
+    tie.close
+    (tie.spec
+    search-requires
+    has-requires
+    returns
+    closure-requires
+    permitted-requires
+    slice-aggregate-row
+    row-requires
+    spread-eight-requires
+    gained-requires
+    returns-2)

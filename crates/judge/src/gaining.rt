@@ -1,0 +1,36 @@
+// What a request would give a user to use.
+ghost use mathlib.Core.Path.{_≡_};
+ghost use Rattle.reach.specs.Words.{bit, TableOf};
+ghost use Rattle.reach.specs.Tables.{view};
+ghost use Rattle.reach.specs.Privileges.{Permitted};
+ghost use Rattle.gains.specs.Giving.{FirstPermission};
+use crate::doing::after;
+use reach::Policy;
+use rows::Gain;
+use rows::gained;
+use rules::Request;
+
+// For each operation those of the objects on which u is permitted it.
+fn permissions(p: Policy, objects: u64, u: u8) -> [u64; 8]
+    ensures { λ r. ⌜ TableOf 8 r (λ k x. (bit objects x ≡ 1) × Permitted (view p) u k x) ⌝ }
+{
+    let mut sets = [0u64; 8];
+    let mut k: u8 = 0;
+    while k < 8 {
+        let i = k as usize;
+        sets[i] = objects & p.permitted(u, k);
+        k += 1;
+    }
+    sets
+}
+
+// The first permission, target by target and operation by operation, that a request would give a user, were it done: one that he has after
+// it and lacks before, on an object in use before. For every policy, user and request, whatever the checks say of it.
+pub fn permission_gained(p: Policy, u: u8, q: Request) -> Gain
+    ensures { λ r. ⌜ FirstPermission p u q r ⌝ }
+{
+    let m = p.masks();
+    let had = permissions(p, m.objects, u);
+    let got = permissions(after(p, q), m.objects, u);
+    gained(had, got)
+}
