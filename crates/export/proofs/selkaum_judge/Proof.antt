@@ -12,30 +12,6 @@ returns c = not-a-picture _ _ _ (c .if1 .taken)
 returns-2 : tie.Need-returns-2
 returns-2 c = no-room _ _ _ (c .before .if1 .left) (omega (arith, c .if2 .taken))
 
-policy-of-requires : tie.Need-policy-of-requires
-policy-of-requires c κs = search needs
-
-judge-requires : tie.Need-judge-requires
-judge-requires c κs = search needs
-
-put-policy-requires : tie.Need-put-policy-requires
-put-policy-requires c κs = search needs
-
-code-of-requires : tie.Need-code-of-requires
-code-of-requires c κs = search needs
-
-slice-write-answer : tie.Need-slice-write-answer
-slice-write-answer c = search needs
-
-cited-of-requires : tie.Need-cited-of-requires
-cited-of-requires c κs = search needs
-
-slice-write-answer-2 : tie.Need-slice-write-answer-2
-slice-write-answer-2 c = search needs
-
-same-length : tie.Need-same-length
-same-length c = search needs
-
 returns-3 : tie.Need-returns-3
 returns-3 c =
     let coded = c .before in
@@ -58,12 +34,12 @@ selkaum-judge-spec =
     (tie.spec
     returns
     returns-2
-    policy-of-requires
-    judge-requires
-    put-policy-requires
-    code-of-requires
-    slice-write-answer
-    cited-of-requires
-    slice-write-answer-2
-    same-length
+    (λ c κs. search needs)
+    (λ c κs. search needs)
+    (λ c κs. search needs)
+    (λ c κs. search needs)
+    (λ c. search needs)
+    (λ c κs. search needs)
+    (λ c. search needs)
+    (λ c. search needs)
     returns-3)

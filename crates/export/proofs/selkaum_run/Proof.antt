@@ -11,15 +11,6 @@ use Rattle.export.proofs.selkaum_run.Tie as tie
 returns : tie.Need-returns
 returns c = (no-picture _ _ _ _ (omega (arith, c .if1 .taken)), third _)
 
-run-list-requires : tie.Need-run-list-requires
-run-list-requires c κs = search needs
-
-same-length : tie.Need-same-length
-same-length c = search needs
-
-same-length-2 : tie.Need-same-length-2
-same-length-2 c = search needs
-
 returns-2 : tie.Need-returns-2
 returns-2 c =
     let ran = c .before .before .before .before .before .before in
@@ -27,18 +18,6 @@ returns-2 c =
       not-run _ _ _ _ (ran .run-list .result) (omega (arith, room .if1 .left)) (search needs) (not-true _ (c .if2 .taken)),
       ran .run-list .ensures .1,
     )
-
-put-policy-requires : tie.Need-put-policy-requires
-put-policy-requires c κs = search needs
-
-same-length-3 : tie.Need-same-length-3
-same-length-3 c = search needs
-
-same-length-4 : tie.Need-same-length-4
-same-length-4 c = search needs
-
-same-length-5 : tie.Need-same-length-5
-same-length-5 c = search needs
 
 returns-3 : tie.Need-returns-3
 returns-3 c =
@@ -56,12 +35,12 @@ selkaum-run-spec =
     tie.close
     (tie.spec
     returns
-    run-list-requires
-    same-length
-    same-length-2
+    (λ c κs. search needs)
+    (λ c. search needs)
+    (λ c. search needs)
     returns-2
-    put-policy-requires
-    same-length-3
-    same-length-4
-    same-length-5
+    (λ c κs. search needs)
+    (λ c. search needs)
+    (λ c. search needs)
+    (λ c. search needs)
     returns-3)

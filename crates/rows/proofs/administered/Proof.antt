@@ -17,21 +17,6 @@ abbrev μ-loop : tie.MeasureT-loop
 loop-holds : tie.Need-loop-holds Inv-loop μ-loop
 loop-holds c = (search needs, tabled-none 64 _ (length-replicate {A = ℕ} 64 0) (λ j l. getD-replicate {A = ℕ} 64 j 0 0 l))
 
-mul-administered-by : tie.Need-mul-administered-by Inv-loop μ-loop
-mul-administered-by c = search needs
-
-array-copy-out-administered-by : tie.Need-array-copy-out-administered-by Inv-loop μ-loop
-array-copy-out-administered-by c = search needs
-
-administered-by-requires : tie.Need-administered-by-requires Inv-loop μ-loop
-administered-by-requires c κs = search needs
-
-add-i : tie.Need-add-i Inv-loop μ-loop
-add-i c = search needs
-
-loop-less : tie.Need-loop-less Inv-loop μ-loop
-loop-less c = search needs
-
 loop-again : tie.Need-loop-again Inv-loop μ-loop
 loop-again c = (
   search needs,
@@ -56,10 +41,10 @@ administered-spec =
     Inv-loop
     μ-loop
     loop-holds
-    mul-administered-by
-    array-copy-out-administered-by
-    administered-by-requires
-    add-i
-    loop-less
+    (λ c. search needs)
+    (λ c. search needs)
+    (λ c κs. search needs)
+    (λ c. search needs)
+    (λ c. search needs)
     loop-again
     returns)

@@ -22,15 +22,6 @@ returns-2 c =
     let long : length (a .pairs) ≡ 64 = search needs in
     joined-none _ long (λ j. let fits : Fits w64 (getD (a .pairs) j 0) = search needs in fits .fits) (λ i x q. c .if2 .taken (q .0 .0))
 
-row-requires : tie.Need-row-requires
-row-requires c κs = search needs
-
-row-requires-2 : tie.Need-row-requires-2
-row-requires-2 c κs = search needs
-
-spread-requires : tie.Need-spread-requires
-spread-requires c κs = search needs
-
 returns-3 : tie.Need-returns-3
 returns-3 c =
     let first = c .before .before .before .row .ensures in
@@ -45,4 +36,4 @@ returns-3 c =
 
 pub administered-by-spec : {M : Type 1} → statement M
 administered-by-spec =
-    tie.close (tie.spec returns returns-2 row-requires row-requires-2 spread-requires returns-3)
+    tie.close (tie.spec returns returns-2 (λ c κs. search needs) (λ c κs. search needs) (λ c κs. search needs) returns-3)

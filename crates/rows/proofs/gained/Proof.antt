@@ -31,41 +31,11 @@ Inv-search had got fresh found₀ x₀ found x =
 abbrev μ-search : tie.MeasureT-search
 μ-search had got fresh found₀ x₀ found x = 64 - x
 
-new-targets-requires : tie.Need-new-targets-requires Inv-loop μ-loop Inv-search μ-search
-new-targets-requires c κs = search needs
-
 search-holds : tie.Need-search-holds Inv-loop μ-loop Inv-search μ-search
 search-holds c = (search needs, refl, λ y l. absurd (omega (arith, l)))
 
-has-requires : tie.Need-has-requires Inv-loop μ-loop Inv-search μ-search
-has-requires c κs = search needs
-
 loop-holds : tie.Need-loop-holds Inv-loop μ-loop Inv-search μ-search
 loop-holds c = (search needs, c .before .before .before .search .inv .1, λ j l. absurd (omega (arith, l)))
-
-cast-i : tie.Need-cast-i Inv-loop μ-loop Inv-search μ-search
-cast-i c = search needs
-
-mul-has : tie.Need-mul-has Inv-loop μ-loop Inv-search μ-search
-mul-has c = search needs
-
-array-read-has : tie.Need-array-read-has Inv-loop μ-loop Inv-search μ-search
-array-read-has c = search needs
-
-mul-has-2 : tie.Need-mul-has-2 Inv-loop μ-loop Inv-search μ-search
-mul-has-2 c = search needs
-
-array-read-has-2 : tie.Need-array-read-has-2 Inv-loop μ-loop Inv-search μ-search
-array-read-has-2 c = search needs
-
-has-requires-2 : tie.Need-has-requires-2 Inv-loop μ-loop Inv-search μ-search
-has-requires-2 c κs = search needs
-
-add-k : tie.Need-add-k Inv-loop μ-loop Inv-search μ-search
-add-k c = search needs
-
-loop-less : tie.Need-loop-less Inv-loop μ-loop Inv-search μ-search
-loop-less c = search needs
 
 loop-again : tie.Need-loop-again Inv-loop μ-loop Inv-search μ-search
 loop-again c =
@@ -78,12 +48,6 @@ loop-again c =
       below-more _ _ (l .loop .inv .2)
           (refuted (decides-at (c .before .has2 .ensures) (decides-has (new-set _ _ (h .fits) (g .fits)) _)) (c .if2 .left)),
     )
-
-add-x : tie.Need-add-x Inv-loop μ-loop Inv-search μ-search
-add-x c = search needs
-
-search-less : tie.Need-search-less Inv-loop μ-loop Inv-search μ-search
-search-less c = search needs
 
 search-again : tie.Need-search-again Inv-loop μ-loop Inv-search μ-search
 search-again c =
@@ -134,21 +98,21 @@ gained-spec =
     μ-loop
     Inv-search
     μ-search
-    new-targets-requires
+    (λ c κs. search needs)
     search-holds
-    has-requires
+    (λ c κs. search needs)
     loop-holds
-    cast-i
-    mul-has
-    array-read-has
-    mul-has-2
-    array-read-has-2
-    has-requires-2
-    add-k
-    loop-less
+    (λ c. search needs)
+    (λ c. search needs)
+    (λ c. search needs)
+    (λ c. search needs)
+    (λ c. search needs)
+    (λ c κs. search needs)
+    (λ c. search needs)
+    (λ c. search needs)
     loop-again
-    add-x
-    search-less
+    (λ c. search needs)
+    (λ c. search needs)
     search-again
     returns
     returns-2)

@@ -17,21 +17,6 @@ abbrev μ-loop : tie.MeasureT-loop
 loop-holds : tie.Need-loop-holds Inv-loop μ-loop
 loop-holds c = (search needs, union-none _)
 
-mul-held-by : tie.Need-mul-held-by Inv-loop μ-loop
-mul-held-by c = search needs
-
-array-copy-out-held-by : tie.Need-array-copy-out-held-by Inv-loop μ-loop
-array-copy-out-held-by c = search needs
-
-held-by-requires : tie.Need-held-by-requires Inv-loop μ-loop
-held-by-requires c κs = search needs
-
-add-i : tie.Need-add-i Inv-loop μ-loop
-add-i c = search needs
-
-loop-less : tie.Need-loop-less Inv-loop μ-loop
-loop-less c = search needs
-
 loop-again : tie.Need-loop-again Inv-loop μ-loop
 loop-again c = (
   search needs,
@@ -54,10 +39,10 @@ held-spec =
     Inv-loop
     μ-loop
     loop-holds
-    mul-held-by
-    array-copy-out-held-by
-    held-by-requires
-    add-i
-    loop-less
+    (λ c. search needs)
+    (λ c. search needs)
+    (λ c κs. search needs)
+    (λ c. search needs)
+    (λ c. search needs)
     loop-again
     returns)

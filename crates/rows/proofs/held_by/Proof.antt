@@ -13,9 +13,6 @@ returns c = set-none (λ x h. c .if1 .taken (h .0 .1))
 returns-2 : tie.Need-returns-2
 returns-2 c = set-none (λ x h. c .if2 .taken (h .0 .0))
 
-row-requires : tie.Need-row-requires
-row-requires c κs = search needs
-
 returns-3 : tie.Need-returns-3
 returns-3 c =
     let fits : Fits w64 (c .row .result) = search needs in
@@ -25,4 +22,4 @@ returns-3 c =
     (λ x h. h .1)
 
 pub held-by-spec : {M : Type 1} → statement M
-held-by-spec = tie.close (tie.spec returns returns-2 row-requires returns-3)
+held-by-spec = tie.close (tie.spec returns returns-2 (λ c κs. search needs) returns-3)

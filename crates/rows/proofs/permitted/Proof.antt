@@ -17,21 +17,6 @@ abbrev μ-loop : tie.MeasureT-loop
 loop-holds : tie.Need-loop-holds Inv-loop μ-loop
 loop-holds c = (search needs, tabled-none 8 _ (length-replicate {A = ℕ} 8 0) (λ j l. getD-replicate {A = ℕ} 8 j 0 0 l))
 
-mul-permitted-by : tie.Need-mul-permitted-by Inv-loop μ-loop
-mul-permitted-by c = search needs
-
-array-copy-out-permitted-by : tie.Need-array-copy-out-permitted-by Inv-loop μ-loop
-array-copy-out-permitted-by c = search needs
-
-permitted-by-requires : tie.Need-permitted-by-requires Inv-loop μ-loop
-permitted-by-requires c κs = search needs
-
-add-i : tie.Need-add-i Inv-loop μ-loop
-add-i c = search needs
-
-loop-less : tie.Need-loop-less Inv-loop μ-loop
-loop-less c = search needs
-
 loop-again : tie.Need-loop-again Inv-loop μ-loop
 loop-again c = (
   search needs,
@@ -63,10 +48,10 @@ permitted-spec =
     Inv-loop
     μ-loop
     loop-holds
-    mul-permitted-by
-    array-copy-out-permitted-by
-    permitted-by-requires
-    add-i
-    loop-less
+    (λ c. search needs)
+    (λ c. search needs)
+    (λ c κs. search needs)
+    (λ c. search needs)
+    (λ c. search needs)
     loop-again
     returns)

@@ -24,12 +24,6 @@ returns c =
     (λ j. let fits : Fits w64 (getD (a .sets) j 0) = search needs in fits .fits)
     (λ i x q. true≢false (sym (q .0 .0) ∙ not-true _ (c .if1 .taken)))
 
-row-requires : tie.Need-row-requires
-row-requires c κs = search needs
-
-has-requires : tie.Need-has-requires
-has-requires c κs = search needs
-
 returns-2 : tie.Need-returns-2
 returns-2 c =
     let a = c .before .before .before .before .before .before .args in
@@ -43,15 +37,6 @@ returns-2 c =
     (has-decides _ _)
     (sym (c .before .has .ensures) ∙ not-true _ (c .if2 .taken))
     (ap (λ (r : ℕ). bit r (a .u)) (c .before .before .row .ensures) ∙ q .1 .0))
-
-cast-spread-eight : tie.Need-cast-spread-eight
-cast-spread-eight c = search needs
-
-row-requires-2 : tie.Need-row-requires-2
-row-requires-2 c κs = search needs
-
-spread-eight-requires : tie.Need-spread-eight-requires
-spread-eight-requires c κs = search needs
 
 returns-3 : tie.Need-returns-3
 returns-3 c =
@@ -75,10 +60,10 @@ permitted-by-spec =
     tie.close
     (tie.spec
     returns
-    row-requires
-    has-requires
+    (λ c κs. search needs)
+    (λ c κs. search needs)
     returns-2
-    cast-spread-eight
-    row-requires-2
-    spread-eight-requires
+    (λ c. search needs)
+    (λ c κs. search needs)
+    (λ c κs. search needs)
     returns-3)

@@ -7,15 +7,6 @@ use borrow.Author.Needs.{needs}
 use Rattle.rows.proofs.put_rows.Statement.{statement}
 use Rattle.rows.proofs.put_rows.Tie as tie
 
-above-requires : tie.Need-above-requires
-above-requires c κs = search needs
-
-row-requires : tie.Need-row-requires
-row-requires c κs = search needs
-
-spread-requires : tie.Need-spread-requires
-spread-requires c κs = search needs
-
 returns : tie.Need-returns
 returns c =
     let above = c .before .before .before .above .ensures in
@@ -27,4 +18,4 @@ returns c =
     (λ i y l q. (above .all i (l, q .0), ap (λ (r : ℕ). bit r y) row ∙ q .1))
 
 pub put-rows-spec : {M : Type 1} → statement M
-put-rows-spec = tie.close (tie.spec above-requires row-requires spread-requires returns)
+put-rows-spec = tie.close (tie.spec (λ c κs. search needs) (λ c κs. search needs) (λ c κs. search needs) returns)

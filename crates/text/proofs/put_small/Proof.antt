@@ -8,51 +8,6 @@ use borrow.Author.Needs.{needs}
 use Rattle.text.proofs.put_small.Statement.{statement}
 use Rattle.text.proofs.put_small.Tie as tie
 
-add-put-byte : tie.Need-add-put-byte
-add-put-byte c = search needs
-
-add-put-byte-2 : tie.Need-add-put-byte-2
-add-put-byte-2 c = search needs
-
-add-put-byte-3 : tie.Need-add-put-byte-3
-add-put-byte-3 c = search needs
-
-add-put-byte-4 : tie.Need-add-put-byte-4
-add-put-byte-4 c = search needs
-
-add-put-byte-5 : tie.Need-add-put-byte-5
-add-put-byte-5 c = search needs
-
-add-put-byte-6 : tie.Need-add-put-byte-6
-add-put-byte-6 c = search needs
-
-put-byte-requires : tie.Need-put-byte-requires
-put-byte-requires c κs = search needs
-
-put-byte-requires-2 : tie.Need-put-byte-requires-2
-put-byte-requires-2 c κs = search needs
-
-put-byte-requires-3 : tie.Need-put-byte-requires-3
-put-byte-requires-3 c κs = search needs
-
-put-byte-requires-4 : tie.Need-put-byte-requires-4
-put-byte-requires-4 c κs = search needs
-
-put-byte-requires-5 : tie.Need-put-byte-requires-5
-put-byte-requires-5 c κs = search needs
-
-put-byte-requires-6 : tie.Need-put-byte-requires-6
-put-byte-requires-6 c κs = search needs
-
-same-length : tie.Need-same-length
-same-length c = search needs
-
-same-length-2 : tie.Need-same-length-2
-same-length-2 c = search needs
-
-same-length-3 : tie.Need-same-length-3
-same-length-3 c = search needs
-
 returns : tie.Need-returns
 returns c = wrote-as (sym (decimal-digit _ (c .before .before .before .before .if1 .taken))) (c .before .before .put-byte .ensures)
 
@@ -78,21 +33,21 @@ pub put-small-spec : {M : Type 1} → statement M
 put-small-spec =
     tie.close
     (tie.spec
-    add-put-byte
-    put-byte-requires
-    same-length
+    (λ c. search needs)
+    (λ c κs. search needs)
+    (λ c. search needs)
     returns
-    add-put-byte-2
-    put-byte-requires-2
-    add-put-byte-3
-    put-byte-requires-3
-    same-length-2
+    (λ c. search needs)
+    (λ c κs. search needs)
+    (λ c. search needs)
+    (λ c κs. search needs)
+    (λ c. search needs)
     returns-2
-    add-put-byte-4
-    put-byte-requires-4
-    add-put-byte-5
-    put-byte-requires-5
-    add-put-byte-6
-    put-byte-requires-6
-    same-length-3
+    (λ c. search needs)
+    (λ c κs. search needs)
+    (λ c. search needs)
+    (λ c κs. search needs)
+    (λ c. search needs)
+    (λ c κs. search needs)
+    (λ c. search needs)
     returns-3)

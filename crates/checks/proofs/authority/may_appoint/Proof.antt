@@ -9,15 +9,6 @@ use borrow.Author.Needs.{needs}
 use Rattle.checks.proofs.authority.may_appoint.Statement.{statement}
 use Rattle.checks.proofs.authority.may_appoint.Tie as tie
 
-held-requires : tie.Need-held-requires
-held-requires c κs = search needs
-
-has-requires : tie.Need-has-requires
-has-requires c κs = search needs
-
-has-requires-2 : tie.Need-has-requires-2
-has-requires-2 c κs = search needs
-
 returns : tie.Need-returns
 unfolding mayAppoint
 returns c =
@@ -27,12 +18,6 @@ returns c =
     (ap₂ _&&_
     (c .before .has .ensures ∙ has-is s _ _ (holds-decides p 2 _ _))
     (c .has2 .ensures ∙ has-is s _ _ (holds-decides p 2 _ _)))
-
-held-requires-2 : tie.Need-held-requires-2
-held-requires-2 c κs = search needs
-
-has-requires-3 : tie.Need-has-requires-3
-has-requires-3 c κs = search needs
 
 returns-2 : tie.Need-returns-2
 unfolding mayAppoint
@@ -47,10 +32,10 @@ pub may-appoint-spec : {M : Type 1} → statement M
 may-appoint-spec =
     tie.close
     (tie.spec
-    held-requires
-    has-requires
-    has-requires-2
+    (λ c κs. search needs)
+    (λ c κs. search needs)
+    (λ c κs. search needs)
     returns
-    held-requires-2
-    has-requires-3
+    (λ c κs. search needs)
+    (λ c κs. search needs)
     returns-2)

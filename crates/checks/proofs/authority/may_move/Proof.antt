@@ -6,15 +6,6 @@ use borrow.Author.Needs.{needs}
 use Rattle.checks.proofs.authority.may_move.Statement.{statement}
 use Rattle.checks.proofs.authority.may_move.Tie as tie
 
-governed-requires : tie.Need-governed-requires
-governed-requires c κs = search needs
-
-has-requires : tie.Need-has-requires
-has-requires c κs = search needs
-
-has-requires-2 : tie.Need-has-requires-2
-has-requires-2 c κs = search needs
-
 returns : tie.Need-returns
 returns c =
     λ p l e.
@@ -22,4 +13,4 @@ returns c =
     ap₂ _&&_ (c .before .has .ensures ∙ governed-is p _ _ s) (c .has2 .ensures ∙ governed-is p _ _ s)
 
 pub may-move-spec : {M : Type 1} → statement M
-may-move-spec = tie.close (tie.spec governed-requires has-requires has-requires-2 returns)
+may-move-spec = tie.close (tie.spec (λ c κs. search needs) (λ c κs. search needs) (λ c κs. search needs) returns)

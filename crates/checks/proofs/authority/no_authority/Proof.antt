@@ -10,63 +10,6 @@ use borrow.Author.Needs.{needs}
 use Rattle.checks.proofs.authority.no_authority.Statement.{statement}
 use Rattle.checks.proofs.authority.no_authority.Tie as tie
 
-enum-known-q : tie.Need-enum-known-q
-enum-known-q c = search needs
-
-governed-requires : tie.Need-governed-requires
-governed-requires c κs = search needs
-
-has-requires : tie.Need-has-requires
-has-requires c κs = search needs
-
-enum-known-q-2 : tie.Need-enum-known-q-2
-enum-known-q-2 c = search needs
-
-may-move-requires : tie.Need-may-move-requires
-may-move-requires c κs = search needs
-
-enum-known-q-3 : tie.Need-enum-known-q-3
-enum-known-q-3 c = search needs
-
-may-move-requires-2 : tie.Need-may-move-requires-2
-may-move-requires-2 c κs = search needs
-
-enum-known-q-4 : tie.Need-enum-known-q-4
-enum-known-q-4 c = search needs
-
-may-appoint-requires : tie.Need-may-appoint-requires
-may-appoint-requires c κs = search needs
-
-enum-known-q-5 : tie.Need-enum-known-q-5
-enum-known-q-5 c = search needs
-
-may-appoint-requires-2 : tie.Need-may-appoint-requires-2
-may-appoint-requires-2 c κs = search needs
-
-enum-known-q-6 : tie.Need-enum-known-q-6
-enum-known-q-6 c = search needs
-
-administered-requires : tie.Need-administered-requires
-administered-requires c κs = search needs
-
-has-requires-2 : tie.Need-has-requires-2
-has-requires-2 c κs = search needs
-
-enum-known-q-7 : tie.Need-enum-known-q-7
-enum-known-q-7 c = search needs
-
-administered-requires-2 : tie.Need-administered-requires-2
-administered-requires-2 c κs = search needs
-
-has-requires-3 : tie.Need-has-requires-3
-has-requires-3 c κs = search needs
-
-enum-known-q-8 : tie.Need-enum-known-q-8
-enum-known-q-8 c = search needs
-
-permits-requires : tie.Need-permits-requires
-permits-requires c κs = search needs
-
 returns : tie.Need-returns
 unfolding noAuthority may
 returns c =
@@ -120,25 +63,25 @@ pub no-authority-spec : {M : Type 1} → statement M
 no-authority-spec =
     tie.close
     (tie.spec
-    enum-known-q
-    governed-requires
-    has-requires
-    enum-known-q-2
-    may-move-requires
-    enum-known-q-3
-    may-move-requires-2
-    enum-known-q-4
-    may-appoint-requires
-    enum-known-q-5
-    may-appoint-requires-2
-    enum-known-q-6
-    administered-requires
-    has-requires-2
-    enum-known-q-7
-    administered-requires-2
-    has-requires-3
-    enum-known-q-8
-    permits-requires
+    (λ c. search needs)
+    (λ c κs. search needs)
+    (λ c κs. search needs)
+    (λ c. search needs)
+    (λ c κs. search needs)
+    (λ c. search needs)
+    (λ c κs. search needs)
+    (λ c. search needs)
+    (λ c κs. search needs)
+    (λ c. search needs)
+    (λ c κs. search needs)
+    (λ c. search needs)
+    (λ c κs. search needs)
+    (λ c κs. search needs)
+    (λ c. search needs)
+    (λ c κs. search needs)
+    (λ c κs. search needs)
+    (λ c. search needs)
+    (λ c κs. search needs)
     returns
     returns-2
     returns-3

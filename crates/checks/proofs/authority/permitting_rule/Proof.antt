@@ -4,33 +4,6 @@ use borrow.Author.Needs.{needs}
 use Rattle.checks.proofs.authority.permitting_rule.Statement.{statement}
 use Rattle.checks.proofs.authority.permitting_rule.Tie as tie
 
-enum-known-q : tie.Need-enum-known-q
-enum-known-q c = search needs
-
-enum-known-q-2 : tie.Need-enum-known-q-2
-enum-known-q-2 c = search needs
-
-enum-known-q-3 : tie.Need-enum-known-q-3
-enum-known-q-3 c = search needs
-
-enum-known-q-4 : tie.Need-enum-known-q-4
-enum-known-q-4 c = search needs
-
-enum-known-q-5 : tie.Need-enum-known-q-5
-enum-known-q-5 c = search needs
-
-enum-known-q-6 : tie.Need-enum-known-q-6
-enum-known-q-6 c = search needs
-
-enum-known-q-7 : tie.Need-enum-known-q-7
-enum-known-q-7 c = search needs
-
-enum-known-q-8 : tie.Need-enum-known-q-8
-enum-known-q-8 c = search needs
-
-permitting-requires : tie.Need-permitting-requires
-permitting-requires c κs = search needs
-
 returns : tie.Need-returns
 unfolding permittingRule
 returns c = λ p l e. rw (c .before .q .given .1)
@@ -67,15 +40,15 @@ pub permitting-rule-spec : {M : Type 1} → statement M
 permitting-rule-spec =
     tie.close
     (tie.spec
-    enum-known-q
-    enum-known-q-2
-    enum-known-q-3
-    enum-known-q-4
-    enum-known-q-5
-    enum-known-q-6
-    enum-known-q-7
-    enum-known-q-8
-    permitting-requires
+    (λ c. search needs)
+    (λ c. search needs)
+    (λ c. search needs)
+    (λ c. search needs)
+    (λ c. search needs)
+    (λ c. search needs)
+    (λ c. search needs)
+    (λ c. search needs)
+    (λ c κs. search needs)
     returns
     returns-2
     returns-3

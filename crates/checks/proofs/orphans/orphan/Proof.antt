@@ -8,42 +8,6 @@ use borrow.Author.Needs.{needs}
 use Rattle.checks.proofs.orphans.orphan.Statement.{statement}
 use Rattle.checks.proofs.orphans.orphan.Tie as tie
 
-enum-known-q : tie.Need-enum-known-q
-enum-known-q c = search needs
-
-enum-known-q-2 : tie.Need-enum-known-q-2
-enum-known-q-2 c = search needs
-
-enum-known-q-3 : tie.Need-enum-known-q-3
-enum-known-q-3 c = search needs
-
-taken-from-requires : tie.Need-taken-from-requires
-taken-from-requires c κs = search needs
-
-orphaned-requires : tie.Need-orphaned-requires
-orphaned-requires c κs = search needs
-
-enum-known-q-4 : tie.Need-enum-known-q-4
-enum-known-q-4 c = search needs
-
-enum-known-q-5 : tie.Need-enum-known-q-5
-enum-known-q-5 c = search needs
-
-appointed-at-requires : tie.Need-appointed-at-requires
-appointed-at-requires c κs = search needs
-
-orphaned-requires-2 : tie.Need-orphaned-requires-2
-orphaned-requires-2 c κs = search needs
-
-enum-known-q-6 : tie.Need-enum-known-q-6
-enum-known-q-6 c = search needs
-
-enum-known-q-7 : tie.Need-enum-known-q-7
-enum-known-q-7 c = search needs
-
-enum-known-q-8 : tie.Need-enum-known-q-8
-enum-known-q-8 c = search needs
-
 returns : tie.Need-returns
 unfolding orphan
 returns c = λ p l f. rw (c .before .q .given .1)
@@ -86,18 +50,18 @@ pub orphan-spec : {M : Type 1} → statement M
 orphan-spec =
     tie.close
     (tie.spec
-    enum-known-q
-    enum-known-q-2
-    enum-known-q-3
-    taken-from-requires
-    orphaned-requires
-    enum-known-q-4
-    enum-known-q-5
-    appointed-at-requires
-    orphaned-requires-2
-    enum-known-q-6
-    enum-known-q-7
-    enum-known-q-8
+    (λ c. search needs)
+    (λ c. search needs)
+    (λ c. search needs)
+    (λ c κs. search needs)
+    (λ c κs. search needs)
+    (λ c. search needs)
+    (λ c. search needs)
+    (λ c κs. search needs)
+    (λ c κs. search needs)
+    (λ c. search needs)
+    (λ c. search needs)
+    (λ c. search needs)
     returns
     returns-2
     returns-3

@@ -6,21 +6,6 @@ use borrow.Author.Needs.{needs}
 use Rattle.export.proofs.drawing.put_policy.Statement.{statement}
 use Rattle.export.proofs.drawing.put_policy.Tie as tie
 
-put-sorts-requires : tie.Need-put-sorts-requires
-put-sorts-requires c κs = search needs
-
-put-rows-requires : tie.Need-put-rows-requires
-put-rows-requires c κs = search needs
-
-put-appointments-requires : tie.Need-put-appointments-requires
-put-appointments-requires c κs = search needs
-
-put-rules-requires : tie.Need-put-rules-requires
-put-rules-requires c κs = search needs
-
-same-length : tie.Need-same-length
-same-length c = search needs
-
 -- The tables of a policy that is passed have their sizes.
 sized : (c : tie.Start) → Sized (c .args .p)
 sized c =
@@ -45,9 +30,9 @@ pub put-policy-spec : {M : Type 1} → statement M
 put-policy-spec =
     tie.close
     (tie.spec
-    put-sorts-requires
-    put-rows-requires
-    put-appointments-requires
-    put-rules-requires
-    same-length
+    (λ c κs. search needs)
+    (λ c κs. search needs)
+    (λ c κs. search needs)
+    (λ c κs. search needs)
+    (λ c. search needs)
     returns)

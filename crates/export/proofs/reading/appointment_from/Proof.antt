@@ -3,27 +3,6 @@ use borrow.Author.Needs.{needs}
 use Rattle.export.proofs.reading.appointment_from.Statement.{statement}
 use Rattle.export.proofs.reading.appointment_from.Tie as tie
 
-byte-requires : tie.Need-byte-requires
-byte-requires c κs = search needs
-
-add-byte : tie.Need-add-byte
-add-byte c = search needs
-
-byte-requires-2 : tie.Need-byte-requires-2
-byte-requires-2 c κs = search needs
-
-add-byte-2 : tie.Need-add-byte-2
-add-byte-2 c = search needs
-
-byte-requires-3 : tie.Need-byte-requires-3
-byte-requires-3 c κs = search needs
-
-add-byte-3 : tie.Need-add-byte-3
-add-byte-3 c = search needs
-
-byte-requires-4 : tie.Need-byte-requires-4
-byte-requires-4 c κs = search needs
-
 returns : tie.Need-returns
 returns c =
     let third = c .before in
@@ -34,11 +13,11 @@ pub appointment-from-spec : {M : Type 1} → statement M
 appointment-from-spec =
     tie.close
     (tie.spec
-    byte-requires
-    add-byte
-    byte-requires-2
-    add-byte-2
-    byte-requires-3
-    add-byte-3
-    byte-requires-4
+    (λ c κs. search needs)
+    (λ c. search needs)
+    (λ c κs. search needs)
+    (λ c. search needs)
+    (λ c κs. search needs)
+    (λ c. search needs)
+    (λ c κs. search needs)
     returns)

@@ -16,26 +16,8 @@ abbrev μ-loop : tie.MeasureT-loop
 loop-holds : tie.Need-loop-holds Inv-loop μ-loop
 loop-holds c = tabled-start _ _ _ (search needs)
 
-mul-appointment-from : tie.Need-mul-appointment-from Inv-loop μ-loop
-mul-appointment-from c = search needs
-
-add-appointment-from : tie.Need-add-appointment-from Inv-loop μ-loop
-add-appointment-from c = search needs
-
-appointment-from-requires : tie.Need-appointment-from-requires Inv-loop μ-loop
-appointment-from-requires c κs = search needs
-
-mul-appointments : tie.Need-mul-appointments Inv-loop μ-loop
-mul-appointments c = search needs
-
 array-set-from-appointments : tie.Need-array-set-from-appointments Inv-loop μ-loop
 array-set-from-appointments c = omega (arith, c .before .loop-test .taken, c .before .before .loop .inv .long)
-
-add-i : tie.Need-add-i Inv-loop μ-loop
-add-i c = search needs
-
-loop-less : tie.Need-loop-less Inv-loop μ-loop
-loop-less c = search needs
 
 loop-again : tie.Need-loop-again Inv-loop μ-loop
 loop-again c = tabled-step _ _ (c .before .before .loop .inv) (c .before .loop-test .taken) _ (c .appointment-from .ensures)
@@ -50,12 +32,12 @@ appointments-of-spec =
     Inv-loop
     μ-loop
     loop-holds
-    mul-appointment-from
-    add-appointment-from
-    appointment-from-requires
-    mul-appointments
+    (λ c. search needs)
+    (λ c. search needs)
+    (λ c κs. search needs)
+    (λ c. search needs)
     array-set-from-appointments
-    add-i
-    loop-less
+    (λ c. search needs)
+    (λ c. search needs)
     loop-again
     returns)

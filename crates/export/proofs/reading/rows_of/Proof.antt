@@ -16,26 +16,8 @@ abbrev μ-loop : tie.MeasureT-loop
 loop-holds : tie.Need-loop-holds Inv-loop μ-loop
 loop-holds c = tabled-start _ _ _ (search needs)
 
-mul-word-from : tie.Need-mul-word-from Inv-loop μ-loop
-mul-word-from c = search needs
-
-add-word-from : tie.Need-add-word-from Inv-loop μ-loop
-add-word-from c = search needs
-
-word-from-requires : tie.Need-word-from-requires Inv-loop μ-loop
-word-from-requires c κs = search needs
-
-mul-rows : tie.Need-mul-rows Inv-loop μ-loop
-mul-rows c = search needs
-
 array-write-rows : tie.Need-array-write-rows Inv-loop μ-loop
 array-write-rows c = omega (arith, c .before .loop-test .taken, c .before .before .loop .inv .long)
-
-add-g : tie.Need-add-g Inv-loop μ-loop
-add-g c = search needs
-
-loop-less : tie.Need-loop-less Inv-loop μ-loop
-loop-less c = search needs
 
 loop-again : tie.Need-loop-again Inv-loop μ-loop
 loop-again c = tabled-step _ _ (c .before .before .loop .inv) (c .before .loop-test .taken) _ (c .word-from .ensures)
@@ -50,12 +32,12 @@ rows-of-spec =
     Inv-loop
     μ-loop
     loop-holds
-    mul-word-from
-    add-word-from
-    word-from-requires
-    mul-rows
+    (λ c. search needs)
+    (λ c. search needs)
+    (λ c κs. search needs)
+    (λ c. search needs)
     array-write-rows
-    add-g
-    loop-less
+    (λ c. search needs)
+    (λ c. search needs)
     loop-again
     returns)

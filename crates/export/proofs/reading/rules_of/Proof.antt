@@ -16,26 +16,8 @@ abbrev μ-loop : tie.MeasureT-loop
 loop-holds : tie.Need-loop-holds Inv-loop μ-loop
 loop-holds c = tabled-start _ _ _ (search needs)
 
-mul-rule-from : tie.Need-mul-rule-from Inv-loop μ-loop
-mul-rule-from c = search needs
-
-add-rule-from : tie.Need-add-rule-from Inv-loop μ-loop
-add-rule-from c = search needs
-
-rule-from-requires : tie.Need-rule-from-requires Inv-loop μ-loop
-rule-from-requires c κs = search needs
-
-mul-rules : tie.Need-mul-rules Inv-loop μ-loop
-mul-rules c = search needs
-
 array-set-from-rules : tie.Need-array-set-from-rules Inv-loop μ-loop
 array-set-from-rules c = omega (arith, c .before .loop-test .taken, c .before .before .loop .inv .long)
-
-add-i : tie.Need-add-i Inv-loop μ-loop
-add-i c = search needs
-
-loop-less : tie.Need-loop-less Inv-loop μ-loop
-loop-less c = search needs
 
 loop-again : tie.Need-loop-again Inv-loop μ-loop
 loop-again c = tabled-step _ _ (c .before .before .loop .inv) (c .before .loop-test .taken) _ (c .rule-from .ensures)
@@ -50,12 +32,12 @@ rules-of-spec =
     Inv-loop
     μ-loop
     loop-holds
-    mul-rule-from
-    add-rule-from
-    rule-from-requires
-    mul-rules
+    (λ c. search needs)
+    (λ c. search needs)
+    (λ c κs. search needs)
+    (λ c. search needs)
     array-set-from-rules
-    add-i
-    loop-less
+    (λ c. search needs)
+    (λ c. search needs)
     loop-again
     returns)

@@ -16,17 +16,8 @@ abbrev μ-loop : tie.MeasureT-loop
 loop-holds : tie.Need-loop-holds Inv-loop μ-loop
 loop-holds c = tabled-start _ _ _ (search needs)
 
-byte-requires : tie.Need-byte-requires Inv-loop μ-loop
-byte-requires c κs = search needs
-
 array-write-sorts : tie.Need-array-write-sorts Inv-loop μ-loop
 array-write-sorts c = omega (arith, c .before .loop-test .taken, c .before .before .loop .inv .long)
-
-add-i : tie.Need-add-i Inv-loop μ-loop
-add-i c = search needs
-
-loop-less : tie.Need-loop-less Inv-loop μ-loop
-loop-less c = search needs
 
 loop-again : tie.Need-loop-again Inv-loop μ-loop
 loop-again c = tabled-step _ _ (c .before .before .loop .inv) (c .before .loop-test .taken) _ (c .byte .ensures)
@@ -41,9 +32,9 @@ sorts-of-spec =
     Inv-loop
     μ-loop
     loop-holds
-    byte-requires
+    (λ c κs. search needs)
     array-write-sorts
-    add-i
-    loop-less
+    (λ c. search needs)
+    (λ c. search needs)
     loop-again
     returns)

@@ -15,17 +15,8 @@ abbrev μ-loop : tie.MeasureT-loop
 loop-holds : tie.Need-loop-holds Inv-loop μ-loop
 loop-holds c = numbered-start _ _
 
-sub-k : tie.Need-sub-k Inv-loop μ-loop
-sub-k c = search needs
-
 add-byte : tie.Need-add-byte Inv-loop μ-loop
 add-byte c = omega (arith, c .before .before .before .pre, c .before .loop .inv .within)
-
-byte-requires : tie.Need-byte-requires Inv-loop μ-loop
-byte-requires c κs = search needs
-
-wide-requires : tie.Need-wide-requires Inv-loop μ-loop
-wide-requires c κs = search needs
 
 mul-word : tie.Need-mul-word Inv-loop μ-loop
 mul-word c = let test = c .before .before in omega (arith, numbered-room (test .before .loop .inv) (test .loop-test .taken))
@@ -33,9 +24,6 @@ mul-word c = let test = c .before .before in omega (arith, numbered-room (test .
 add-word : tie.Need-add-word Inv-loop μ-loop
 add-word c =
     let test = c .before .before in omega (arith, c .wide .ensures, numbered-room (test .before .loop .inv) (test .loop-test .taken))
-
-loop-less : tie.Need-loop-less Inv-loop μ-loop
-loop-less c = search needs
 
 loop-again : tie.Need-loop-again Inv-loop μ-loop
 loop-again c =
@@ -57,12 +45,12 @@ word-from-spec =
     Inv-loop
     μ-loop
     loop-holds
-    sub-k
+    (λ c. search needs)
     add-byte
-    byte-requires
-    wide-requires
+    (λ c κs. search needs)
+    (λ c κs. search needs)
     mul-word
     add-word
-    loop-less
+    (λ c. search needs)
     loop-again
     returns)

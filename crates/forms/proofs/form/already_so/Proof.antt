@@ -7,42 +7,6 @@ use borrow.Author.Needs.{needs}
 use Rattle.forms.proofs.form.already_so.Statement.{statement}
 use Rattle.forms.proofs.form.already_so.Tie as tie
 
-enum-known-q : tie.Need-enum-known-q
-enum-known-q c = search needs
-
-has-requires : tie.Need-has-requires
-has-requires c κs = search needs
-
-enum-known-q-2 : tie.Need-enum-known-q-2
-enum-known-q-2 c = search needs
-
-direct-requires : tie.Need-direct-requires
-direct-requires c κs = search needs
-
-enum-known-q-3 : tie.Need-enum-known-q-3
-enum-known-q-3 c = search needs
-
-direct-requires-2 : tie.Need-direct-requires-2
-direct-requires-2 c κs = search needs
-
-enum-known-q-4 : tie.Need-enum-known-q-4
-enum-known-q-4 c = search needs
-
-standing-requires : tie.Need-standing-requires
-standing-requires c κs = search needs
-
-enum-known-q-5 : tie.Need-enum-known-q-5
-enum-known-q-5 c = search needs
-
-enum-known-q-6 : tie.Need-enum-known-q-6
-enum-known-q-6 c = search needs
-
-enum-known-q-7 : tie.Need-enum-known-q-7
-enum-known-q-7 c = search needs
-
-enum-known-q-8 : tie.Need-enum-known-q-8
-enum-known-q-8 c = search needs
-
 returns : tie.Need-returns
 unfolding alreadySo
 returns c = λ p l n. rw (c .before .before .q .given .1, c .has .ensures, in-use-is (l .masks) _)
@@ -79,18 +43,18 @@ pub already-so-spec : {M : Type 1} → statement M
 already-so-spec =
     tie.close
     (tie.spec
-    enum-known-q
-    has-requires
-    enum-known-q-2
-    direct-requires
-    enum-known-q-3
-    direct-requires-2
-    enum-known-q-4
-    standing-requires
-    enum-known-q-5
-    enum-known-q-6
-    enum-known-q-7
-    enum-known-q-8
+    (λ c. search needs)
+    (λ c κs. search needs)
+    (λ c. search needs)
+    (λ c κs. search needs)
+    (λ c. search needs)
+    (λ c κs. search needs)
+    (λ c. search needs)
+    (λ c κs. search needs)
+    (λ c. search needs)
+    (λ c. search needs)
+    (λ c. search needs)
+    (λ c. search needs)
     returns
     returns-2
     returns-3

@@ -6,18 +6,6 @@ use borrow.Author.Needs.{needs}
 use Rattle.forms.proofs.form.direct.Statement.{statement}
 use Rattle.forms.proofs.form.direct.Tie as tie
 
-has-requires : tie.Need-has-requires
-has-requires c κs = search needs
-
-has-requires-2 : tie.Need-has-requires-2
-has-requires-2 c κs = search needs
-
-row-requires : tie.Need-row-requires
-row-requires c κs = search needs
-
-has-requires-3 : tie.Need-has-requires-3
-has-requires-3 c κs = search needs
-
 returns : tie.Need-returns
 returns c =
     λ p l. rw (
@@ -31,4 +19,4 @@ returns c =
     ) (direct-of-row p _ _)
 
 pub direct-spec : {M : Type 1} → statement M
-direct-spec = tie.close (tie.spec has-requires has-requires-2 row-requires has-requires-3 returns)
+direct-spec = tie.close (tie.spec (λ c κs. search needs) (λ c κs. search needs) (λ c κs. search needs) (λ c κs. search needs) returns)

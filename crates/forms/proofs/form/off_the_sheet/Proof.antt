@@ -4,39 +4,6 @@ use borrow.Author.Needs.{needs}
 use Rattle.forms.proofs.form.off_the_sheet.Statement.{statement}
 use Rattle.forms.proofs.form.off_the_sheet.Tie as tie
 
-enum-known-q : tie.Need-enum-known-q
-enum-known-q c = search needs
-
-one-to-three-requires : tie.Need-one-to-three-requires
-one-to-three-requires c κs = search needs
-
-enum-known-q-2 : tie.Need-enum-known-q-2
-enum-known-q-2 c = search needs
-
-enum-known-q-3 : tie.Need-enum-known-q-3
-enum-known-q-3 c = search needs
-
-enum-known-q-4 : tie.Need-enum-known-q-4
-enum-known-q-4 c = search needs
-
-one-to-three-requires-2 : tie.Need-one-to-three-requires-2
-one-to-three-requires-2 c κs = search needs
-
-b-off-requires : tie.Need-b-off-requires
-b-off-requires c κs = search needs
-
-enum-known-q-5 : tie.Need-enum-known-q-5
-enum-known-q-5 c = search needs
-
-enum-known-q-6 : tie.Need-enum-known-q-6
-enum-known-q-6 c = search needs
-
-enum-known-q-7 : tie.Need-enum-known-q-7
-enum-known-q-7 c = search needs
-
-enum-known-q-8 : tie.Need-enum-known-q-8
-enum-known-q-8 c = search needs
-
 returns : tie.Need-returns
 unfolding offTheSheet
 returns c = rw (c .before .before .q .given .1, c .one-to-three .ensures)
@@ -73,17 +40,17 @@ pub off-the-sheet-spec : {M : Type 1} → statement M
 off-the-sheet-spec =
     tie.close
     (tie.spec
-    enum-known-q
-    one-to-three-requires
-    enum-known-q-2
-    enum-known-q-3
-    enum-known-q-4
-    one-to-three-requires-2
-    b-off-requires
-    enum-known-q-5
-    enum-known-q-6
-    enum-known-q-7
-    enum-known-q-8
+    (λ c. search needs)
+    (λ c κs. search needs)
+    (λ c. search needs)
+    (λ c. search needs)
+    (λ c. search needs)
+    (λ c κs. search needs)
+    (λ c κs. search needs)
+    (λ c. search needs)
+    (λ c. search needs)
+    (λ c. search needs)
+    (λ c. search needs)
     returns
     returns-2
     returns-3

@@ -6,11 +6,8 @@ use borrow.Author.Needs.{needs}
 use Rattle.forms.proofs.form.stranger.Statement.{statement}
 use Rattle.forms.proofs.form.stranger.Tie as tie
 
-has-requires : tie.Need-has-requires
-has-requires c κs = search needs
-
 returns : tie.Need-returns
 returns c = λ p k. ap not (c .has .ensures) ∙ stranger-is k _
 
 pub stranger-spec : {M : Type 1} → statement M
-stranger-spec = tie.close (tie.spec has-requires returns)
+stranger-spec = tie.close (tie.spec (λ c κs. search needs) returns)

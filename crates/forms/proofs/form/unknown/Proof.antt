@@ -4,12 +4,9 @@ use borrow.Author.Needs.{needs}
 use Rattle.forms.proofs.form.unknown.Statement.{statement}
 use Rattle.forms.proofs.form.unknown.Tie as tie
 
-kind-field-requires : tie.Need-kind-field-requires
-kind-field-requires c κs = search needs
-
 returns : tie.Need-returns
 unfolding unknown
 returns c = rw (c .kind-field .ensures)
 
 pub unknown-spec : {M : Type 1} → statement M
-unknown-spec = tie.close (tie.spec kind-field-requires returns)
+unknown-spec = tie.close (tie.spec (λ c κs. search needs) returns)

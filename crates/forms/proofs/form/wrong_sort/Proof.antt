@@ -5,57 +5,6 @@ use borrow.Author.Needs.{needs}
 use Rattle.forms.proofs.form.wrong_sort.Statement.{statement}
 use Rattle.forms.proofs.form.wrong_sort.Tie as tie
 
-enum-known-q : tie.Need-enum-known-q
-enum-known-q c = search needs
-
-has-requires : tie.Need-has-requires
-has-requires c κs = search needs
-
-enum-known-q-2 : tie.Need-enum-known-q-2
-enum-known-q-2 c = search needs
-
-has-requires-2 : tie.Need-has-requires-2
-has-requires-2 c κs = search needs
-
-enum-known-q-3 : tie.Need-enum-known-q-3
-enum-known-q-3 c = search needs
-
-has-requires-3 : tie.Need-has-requires-3
-has-requires-3 c κs = search needs
-
-enum-known-q-4 : tie.Need-enum-known-q-4
-enum-known-q-4 c = search needs
-
-has-requires-4 : tie.Need-has-requires-4
-has-requires-4 c κs = search needs
-
-has-requires-5 : tie.Need-has-requires-5
-has-requires-5 c κs = search needs
-
-has-requires-6 : tie.Need-has-requires-6
-has-requires-6 c κs = search needs
-
-enum-known-q-5 : tie.Need-enum-known-q-5
-enum-known-q-5 c = search needs
-
-enum-known-q-6 : tie.Need-enum-known-q-6
-enum-known-q-6 c = search needs
-
-has-requires-7 : tie.Need-has-requires-7
-has-requires-7 c κs = search needs
-
-has-requires-8 : tie.Need-has-requires-8
-has-requires-8 c κs = search needs
-
-enum-known-q-7 : tie.Need-enum-known-q-7
-enum-known-q-7 c = search needs
-
-enum-known-q-8 : tie.Need-enum-known-q-8
-enum-known-q-8 c = search needs
-
-has-requires-9 : tie.Need-has-requires-9
-has-requires-9 c κs = search needs
-
 returns : tie.Need-returns
 unfolding wrongSort
 returns c = λ p k. rw (c .before .before .q .given .1, c .has .ensures, group-is k _)
@@ -101,23 +50,23 @@ pub wrong-sort-spec : {M : Type 1} → statement M
 wrong-sort-spec =
     tie.close
     (tie.spec
-    enum-known-q
-    has-requires
-    enum-known-q-2
-    has-requires-2
-    enum-known-q-3
-    has-requires-3
-    enum-known-q-4
-    has-requires-4
-    has-requires-5
-    has-requires-6
-    enum-known-q-5
-    enum-known-q-6
-    has-requires-7
-    has-requires-8
-    enum-known-q-7
-    enum-known-q-8
-    has-requires-9
+    (λ c. search needs)
+    (λ c κs. search needs)
+    (λ c. search needs)
+    (λ c κs. search needs)
+    (λ c. search needs)
+    (λ c κs. search needs)
+    (λ c. search needs)
+    (λ c κs. search needs)
+    (λ c κs. search needs)
+    (λ c κs. search needs)
+    (λ c. search needs)
+    (λ c. search needs)
+    (λ c κs. search needs)
+    (λ c κs. search needs)
+    (λ c. search needs)
+    (λ c. search needs)
+    (λ c κs. search needs)
     returns
     returns-2
     returns-3

@@ -59,23 +59,8 @@ returns : tie.Need-returns
 unfolding stepAt
 returns c = simp (le-leb _ _ (c .if1 .taken))
 
-sub-left : tie.Need-sub-left
-sub-left c = search needs
-
-part-left-start : tie.Need-part-left-start
-part-left-start c = search needs
-
-part-left-end : tie.Need-part-left-end
-part-left-end c = search needs
-
-torn-requires : tie.Need-torn-requires
-torn-requires c κs = search needs
-
 returns-2 : tie.Need-returns-2
 returns-2 c = tears _ _ (c .before .before .before .if1 .left) _ (c .before .torn .ensures) (c .if2 .taken)
-
-length-field-requires : tie.Need-length-field-requires
-length-field-requires c κs = search needs
 
 add-t5 : tie.Need-add-t5
 add-t5 c =
@@ -93,11 +78,11 @@ step-at-spec =
     tie.close
     (tie.spec
     returns
-    sub-left
-    part-left-start
-    part-left-end
-    torn-requires
+    (λ c. search needs)
+    (λ c. search needs)
+    (λ c. search needs)
+    (λ c κs. search needs)
     returns-2
-    length-field-requires
+    (λ c κs. search needs)
     add-t5
     returns-3)

@@ -3,11 +3,8 @@ use borrow.Author.Needs.{needs}
 use Rattle.frame.proofs.reading.torn.Statement.{statement}
 use Rattle.frame.proofs.reading.torn.Tie as tie
 
-length-field-requires : tie.Need-length-field-requires
-length-field-requires c κs = search needs
-
 returns : tie.Need-returns
 returns c = rw (c .length-field .ensures)
 
 pub torn-spec : {M : Type 1} → statement M
-torn-spec = tie.close (tie.spec length-field-requires returns)
+torn-spec = tie.close (tie.spec (λ c κs. search needs) returns)

@@ -10,33 +10,6 @@ use borrow.Author.Needs.{needs}
 use Rattle.gains.proofs.handing.hand_over.Statement.{statement}
 use Rattle.gains.proofs.handing.hand_over.Tie as tie
 
-enum-known-q : tie.Need-enum-known-q
-enum-known-q c = search needs
-
-enum-known-q-2 : tie.Need-enum-known-q-2
-enum-known-q-2 c = search needs
-
-put-hands-over-requires : tie.Need-put-hands-over-requires
-put-hands-over-requires c κs = search needs
-
-enum-known-q-3 : tie.Need-enum-known-q-3
-enum-known-q-3 c = search needs
-
-enum-known-q-4 : tie.Need-enum-known-q-4
-enum-known-q-4 c = search needs
-
-enum-known-q-5 : tie.Need-enum-known-q-5
-enum-known-q-5 c = search needs
-
-enum-known-q-6 : tie.Need-enum-known-q-6
-enum-known-q-6 c = search needs
-
-enum-known-q-7 : tie.Need-enum-known-q-7
-enum-known-q-7 c = search needs
-
-enum-known-q-8 : tie.Need-enum-known-q-8
-enum-known-q-8 c = search needs
-
 returns : tie.Need-returns
 unfolding handOver
 returns c p m r q o = sym (ap (handOver p (c .before .before .before .args .u)) (c .before .q .given .1))
@@ -79,15 +52,15 @@ pub hand-over-spec : {M : Type 1} → statement M
 hand-over-spec =
     tie.close
     (tie.spec
-    enum-known-q
-    enum-known-q-2
-    put-hands-over-requires
-    enum-known-q-3
-    enum-known-q-4
-    enum-known-q-5
-    enum-known-q-6
-    enum-known-q-7
-    enum-known-q-8
+    (λ c. search needs)
+    (λ c. search needs)
+    (λ c κs. search needs)
+    (λ c. search needs)
+    (λ c. search needs)
+    (λ c. search needs)
+    (λ c. search needs)
+    (λ c. search needs)
+    (λ c. search needs)
     returns
     returns-2
     returns-3

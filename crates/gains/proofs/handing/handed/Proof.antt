@@ -21,15 +21,6 @@ abbrev μ-loop : tie.MeasureT-loop
 loop-holds : tie.Need-loop-holds Inv-loop μ-loop
 loop-holds c = (search needs, λ j l. absurd (omega (arith, l)))
 
-mul-handed-by : tie.Need-mul-handed-by Inv-loop μ-loop
-mul-handed-by c = search needs
-
-array-copy-out-handed-by : tie.Need-array-copy-out-handed-by Inv-loop μ-loop
-array-copy-out-handed-by c = search needs
-
-handed-by-requires : tie.Need-handed-by-requires Inv-loop μ-loop
-handed-by-requires c κs = search needs
-
 returns : tie.Need-returns Inv-loop μ-loop
 returns c =
     decides-yes
@@ -38,12 +29,6 @@ returns c =
       low = search needs;
       at = c .before .handed-by .ensures .sound (c .if1 .taken);
     })
-
-add-i : tie.Need-add-i Inv-loop μ-loop
-add-i c = search needs
-
-loop-less : tie.Need-loop-less Inv-loop μ-loop
-loop-less c = search needs
 
 loop-again : tie.Need-loop-again Inv-loop μ-loop
 loop-again c = (
@@ -61,11 +46,11 @@ handed-spec =
     Inv-loop
     μ-loop
     loop-holds
-    mul-handed-by
-    array-copy-out-handed-by
-    handed-by-requires
+    (λ c. search needs)
+    (λ c. search needs)
+    (λ c κs. search needs)
     returns
-    add-i
-    loop-less
+    (λ c. search needs)
+    (λ c. search needs)
     loop-again
     returns-2)

@@ -13,19 +13,10 @@ returns : tie.Need-returns
 returns c =
     decides-no (λ h. refuted (decides-or _ _ (decides-eqb _ 1) (decides-eqb _ 2)) (not-true _ (c .if1 .taken)) (h .kind))
 
-has-requires : tie.Need-has-requires
-has-requires c κs = search needs
-
 returns-2 : tie.Need-returns-2
 returns-2 c =
     let users = set-bits _ (c .before .before .before .before .before .fits .users .fits) in
     decides-no (λ h. set-outside _ (c .before .has .ensures) (c .if2 .taken) users (h .user))
-
-row-requires : tie.Need-row-requires
-row-requires c κs = search needs
-
-has-requires-2 : tie.Need-has-requires-2
-has-requires-2 c κs = search needs
 
 returns-3 : tie.Need-returns-3
 returns-3 c =
@@ -40,9 +31,6 @@ returns-4 c =
     let w : Fits w64 (had .row .result) = search needs in
     let more = new-of _ (had .row .ensures) (w .fits) (s .fits .free .fits) in
     decides-no (λ h. set-empty more (c .if4 .taken) _ (h .lacks .at .0))
-
-held-requires : tie.Need-held-requires
-held-requires c κs = search needs
 
 returns-5 : tie.Need-returns-5
 returns-5 c =
@@ -70,11 +58,11 @@ handed-by-spec =
     tie.close
     (tie.spec
     returns
-    has-requires
+    (λ c κs. search needs)
     returns-2
-    row-requires
-    has-requires-2
+    (λ c κs. search needs)
+    (λ c κs. search needs)
     returns-3
     returns-4
-    held-requires
+    (λ c κs. search needs)
     returns-5)

@@ -8,21 +8,12 @@ use borrow.Author.Needs.{needs}
 use Rattle.gains.proofs.handing.put_hands_over.Statement.{statement}
 use Rattle.gains.proofs.handing.put_hands_over.Tie as tie
 
-held-requires : tie.Need-held-requires
-held-requires c κs = search needs
-
-row-requires : tie.Need-row-requires
-row-requires c κs = search needs
-
 returns : tie.Need-returns
 returns c p m k q o =
     let own = held-set p _ k q (eqb-true _ 2 (o .user)) (c .before .before .before .held .ensures) in
     let free = set-mask (c .before .row .result) (set-not own) in
     hand-over-is p _ _ _ o k (m .users) (c .before .row .ensures) free q _
     (decides-no (λ h. set-empty free (c .if1 .taken) _ (free .only _ (h .at .lacks .at .0 .now))))
-
-handed-requires : tie.Need-handed-requires
-handed-requires c κs = search needs
 
 returns-2 : tie.Need-returns-2
 returns-2 c p m k q o =
@@ -32,4 +23,4 @@ returns-2 c p m k q o =
 
 pub put-hands-over-spec : {M : Type 1} → statement M
 put-hands-over-spec =
-    tie.close (tie.spec held-requires row-requires returns handed-requires returns-2)
+    tie.close (tie.spec (λ c κs. search needs) (λ c κs. search needs) returns (λ c κs. search needs) returns-2)

@@ -14,12 +14,6 @@ returns c p l q o =
     let a = c .before .before .args in
     appoint-gain p (a .u) (a .place) (a .w) o _ (decides-no (λ h. c .if1 .taken (h .own)))
 
-held-requires : tie.Need-held-requires
-held-requires c κs = search needs
-
-has-requires : tie.Need-has-requires
-has-requires c κs = search needs
-
 returns-2 : tie.Need-returns-2
 returns-2 c p l q o =
     let own = c .before .before .before .before in
@@ -30,12 +24,6 @@ returns-2 c p l q o =
     (decides-not _ (decides-at (c .has .ensures) (decides-has (c .before .held .ensures p l q) _)))
     (λ n. record { own = own .if1 .left; new = inl (kind, n) })
     (λ h. ⊎-elim (λ z. z .1) (λ z. absurd (omega (arith, z .0, kind))) (h .new)))
-
-administered-requires : tie.Need-administered-requires
-administered-requires c κs = search needs
-
-has-requires-2 : tie.Need-has-requires-2
-has-requires-2 c κs = search needs
 
 returns-3 : tie.Need-returns-3
 returns-3 c p l q o =
@@ -59,10 +47,10 @@ appoint-gains-spec =
     tie.close
     (tie.spec
     returns
-    held-requires
-    has-requires
+    (λ c κs. search needs)
+    (λ c κs. search needs)
     returns-2
-    administered-requires
-    has-requires-2
+    (λ c κs. search needs)
+    (λ c κs. search needs)
     returns-3
     returns-4)

@@ -6,15 +6,6 @@ use borrow.Author.Needs.{needs}
 use Rattle.gains.proofs.own.grant_gains.Statement.{statement}
 use Rattle.gains.proofs.own.grant_gains.Tie as tie
 
-grant-permission-requires : tie.Need-grant-permission-requires
-grant-permission-requires c κs = search needs
-
-enum-known-x : tie.Need-enum-known-x
-enum-known-x c = search needs
-
-enum-told : tie.Need-enum-told
-enum-told c = search needs
-
 returns : tie.Need-returns
 returns c p l q o =
     grant-gain p _ _ _ _ _ o
@@ -26,4 +17,4 @@ returns-2 c p l q o =
     (subst (FirstPermission p _ _) (c .enum-told .given .1) (c .before .before .grant-permission .ensures p l q o))
 
 pub grant-gains-spec : {M : Type 1} → statement M
-grant-gains-spec = tie.close (tie.spec grant-permission-requires enum-known-x enum-told returns returns-2)
+grant-gains-spec = tie.close (tie.spec (λ c κs. search needs) (λ c. search needs) (λ c. search needs) returns returns-2)

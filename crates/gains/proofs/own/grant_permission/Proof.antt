@@ -6,34 +6,10 @@ use borrow.Author.Needs.{needs}
 use Rattle.gains.proofs.own.grant_permission.Statement.{statement}
 use Rattle.gains.proofs.own.grant_permission.Tie as tie
 
-search-requires : tie.Need-search-requires
-search-requires c κs = search needs
-
-has-requires : tie.Need-has-requires
-has-requires c κs = search needs
-
 returns : tie.Need-returns
 returns c p l q o =
     grant-outside p _ _ _ _ _ o
     (set-outside _ (c .before .has .ensures) (c .if1 .taken) (c .before .before .search .ensures p l))
-
-closure-requires : tie.Need-closure-requires
-closure-requires c κs = search needs
-
-permitted-requires : tie.Need-permitted-requires
-permitted-requires c κs = search needs
-
-slice-aggregate-row : tie.Need-slice-aggregate-row
-slice-aggregate-row c = search needs
-
-row-requires : tie.Need-row-requires
-row-requires c κs = search needs
-
-spread-eight-requires : tie.Need-spread-eight-requires
-spread-eight-requires c κs = search needs
-
-gained-requires : tie.Need-gained-requires
-gained-requires c κs = search needs
 
 returns-2 : tie.Need-returns-2
 returns-2 c p l q o =
@@ -50,13 +26,13 @@ pub grant-permission-spec : {M : Type 1} → statement M
 grant-permission-spec =
     tie.close
     (tie.spec
-    search-requires
-    has-requires
+    (λ c κs. search needs)
+    (λ c κs. search needs)
     returns
-    closure-requires
-    permitted-requires
-    slice-aggregate-row
-    row-requires
-    spread-eight-requires
-    gained-requires
+    (λ c κs. search needs)
+    (λ c κs. search needs)
+    (λ c. search needs)
+    (λ c κs. search needs)
+    (λ c κs. search needs)
+    (λ c κs. search needs)
     returns-2)

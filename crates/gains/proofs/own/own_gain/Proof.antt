@@ -10,39 +10,6 @@ use borrow.Author.Needs.{needs}
 use Rattle.gains.proofs.own.own_gain.Statement.{statement}
 use Rattle.gains.proofs.own.own_gain.Tie as tie
 
-enum-known-q : tie.Need-enum-known-q
-enum-known-q c = search needs
-
-enum-known-q-2 : tie.Need-enum-known-q-2
-enum-known-q-2 c = search needs
-
-put-gains-requires : tie.Need-put-gains-requires
-put-gains-requires c κs = search needs
-
-enum-known-q-3 : tie.Need-enum-known-q-3
-enum-known-q-3 c = search needs
-
-enum-known-q-4 : tie.Need-enum-known-q-4
-enum-known-q-4 c = search needs
-
-appoint-gains-requires : tie.Need-appoint-gains-requires
-appoint-gains-requires c κs = search needs
-
-enum-known-q-5 : tie.Need-enum-known-q-5
-enum-known-q-5 c = search needs
-
-enum-known-q-6 : tie.Need-enum-known-q-6
-enum-known-q-6 c = search needs
-
-grant-gains-requires : tie.Need-grant-gains-requires
-grant-gains-requires c κs = search needs
-
-enum-known-q-7 : tie.Need-enum-known-q-7
-enum-known-q-7 c = search needs
-
-enum-known-q-8 : tie.Need-enum-known-q-8
-enum-known-q-8 c = search needs
-
 returns : tie.Need-returns
 unfolding ownGain
 returns c p l w q s o = sym (ap (ownGain p (c .before .before .before .args .u)) (c .before .q .given .1))
@@ -95,17 +62,17 @@ pub own-gain-spec : {M : Type 1} → statement M
 own-gain-spec =
     tie.close
     (tie.spec
-    enum-known-q
-    enum-known-q-2
-    put-gains-requires
-    enum-known-q-3
-    enum-known-q-4
-    appoint-gains-requires
-    enum-known-q-5
-    enum-known-q-6
-    grant-gains-requires
-    enum-known-q-7
-    enum-known-q-8
+    (λ c. search needs)
+    (λ c. search needs)
+    (λ c κs. search needs)
+    (λ c. search needs)
+    (λ c. search needs)
+    (λ c κs. search needs)
+    (λ c. search needs)
+    (λ c. search needs)
+    (λ c κs. search needs)
+    (λ c. search needs)
+    (λ c. search needs)
     returns
     returns-2
     returns-3

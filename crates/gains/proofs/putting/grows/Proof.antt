@@ -6,9 +6,6 @@ use borrow.Author.Needs.{needs}
 use Rattle.gains.proofs.putting.grows.Statement.{statement}
 use Rattle.gains.proofs.putting.grows.Tie as tie
 
-has-requires : tie.Need-has-requires
-has-requires c κs = search needs
-
 returns : tie.Need-returns
 returns c =
     decides-no
@@ -23,4 +20,4 @@ returns-2 c =
     (λ h. h .1)
 
 pub grows-spec : {M : Type 1} → statement M
-grows-spec = tie.close (tie.spec has-requires returns returns-2)
+grows-spec = tie.close (tie.spec (λ c κs. search needs) returns returns-2)

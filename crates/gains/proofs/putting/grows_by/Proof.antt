@@ -12,18 +12,6 @@ use Rattle.gains.proofs.putting.grows_by.Tie as tie
 returns : tie.Need-returns
 returns c = decides-no (λ h. c .if1 .taken (h .is-holder))
 
-row-requires : tie.Need-row-requires
-row-requires c κs = search needs
-
-grows-requires : tie.Need-grows-requires
-grows-requires c κs = search needs
-
-row-requires-2 : tie.Need-row-requires-2
-row-requires-2 c κs = search needs
-
-grows-requires-2 : tie.Need-grows-requires-2
-grows-requires-2 c κs = search needs
-
 returns-2 : tie.Need-returns-2
 returns-2 c =
     let first = c .before .before .before in
@@ -41,8 +29,8 @@ grows-by-spec =
     tie.close
     (tie.spec
     returns
-    row-requires
-    grows-requires
-    row-requires-2
-    grows-requires-2
+    (λ c κs. search needs)
+    (λ c κs. search needs)
+    (λ c κs. search needs)
+    (λ c κs. search needs)
     returns-2)

@@ -10,23 +10,11 @@ use borrow.Author.Needs.{needs}
 use Rattle.gains.proofs.putting.holdings_grow.Statement.{statement}
 use Rattle.gains.proofs.putting.holdings_grow.Tie as tie
 
-row-requires : tie.Need-row-requires
-row-requires c κs = search needs
-
-some-grow-requires : tie.Need-some-grow-requires
-some-grow-requires c κs = search needs
-
 returns : tie.Need-returns
 returns c p k q o =
     decides-no
     (no-holding p _ _ _ o k (c .before .before .row .ensures) q
     (refuted (c .before .some-grow .ensures) (not-true _ (c .if1 .taken))))
-
-held-requires : tie.Need-held-requires
-held-requires c κs = search needs
-
-grows-requires : tie.Need-grows-requires
-grows-requires c κs = search needs
 
 returns-2 : tie.Need-returns-2
 returns-2 c p k q o =
@@ -36,12 +24,6 @@ returns-2 c p k q o =
     (held-grows p _ _ _ o k (own .before .before .before .row .ensures) owner
     (held-set p _ k q (eqb-true _ 2 (o .user)) (own .held .ensures))
     (c .before .grows .ensures .sound (c .if2 .taken))))
-
-held-requires-2 : tie.Need-held-requires-2
-held-requires-2 c κs = search needs
-
-grows-requires-2 : tie.Need-grows-requires-2
-grows-requires-2 c κs = search needs
 
 returns-3 : tie.Need-returns-3
 returns-3 c p k q o =
@@ -53,9 +35,6 @@ returns-3 c p k q o =
     (held-grows p _ _ _ o k (own .before .before .before .row .ensures) manager
     (held-set p _ k q (eqb-true _ 2 (o .user)) (managed .held2 .ensures))
     (c .before .grows2 .ensures .sound (c .if3 .taken)))))
-
-pairs-grow-requires : tie.Need-pairs-grow-requires
-pairs-grow-requires c κs = search needs
 
 returns-4 : tie.Need-returns-4
 returns-4 c p k q o =
@@ -88,14 +67,14 @@ pub holdings-grow-spec : {M : Type 1} → statement M
 holdings-grow-spec =
     tie.close
     (tie.spec
-    row-requires
-    some-grow-requires
+    (λ c κs. search needs)
+    (λ c κs. search needs)
     returns
-    held-requires
-    grows-requires
+    (λ c κs. search needs)
+    (λ c κs. search needs)
     returns-2
-    held-requires-2
-    grows-requires-2
+    (λ c κs. search needs)
+    (λ c κs. search needs)
     returns-3
-    pairs-grow-requires
+    (λ c κs. search needs)
     returns-4)

@@ -7,29 +7,11 @@ use borrow.Author.Needs.{needs}
 use Rattle.gains.proofs.putting.pairs_grow.Statement.{statement}
 use Rattle.gains.proofs.putting.pairs_grow.Tie as tie
 
-row-requires : tie.Need-row-requires
-row-requires c κs = search needs
-
-admin-grows-requires : tie.Need-admin-grows-requires
-admin-grows-requires c κs = search needs
-
 returns : tie.Need-returns
 returns c p k q o =
     decides-no
     (no-pair p _ _ _ o k (c .before .before .row .ensures) q
     (refuted (c .before .admin-grows .ensures) (not-true _ (c .if1 .taken))))
-
-put-rows-requires : tie.Need-put-rows-requires
-put-rows-requires c κs = search needs
-
-administered-requires : tie.Need-administered-requires
-administered-requires c κs = search needs
-
-administered-requires-2 : tie.Need-administered-requires-2
-administered-requires-2 c κs = search needs
-
-new-pair-requires : tie.Need-new-pair-requires
-new-pair-requires c κs = search needs
 
 returns-2 : tie.Need-returns-2
 returns-2 c p k q o =
@@ -41,11 +23,11 @@ pub pairs-grow-spec : {M : Type 1} → statement M
 pairs-grow-spec =
     tie.close
     (tie.spec
-    row-requires
-    admin-grows-requires
+    (λ c κs. search needs)
+    (λ c κs. search needs)
     returns
-    put-rows-requires
-    administered-requires
-    administered-requires-2
-    new-pair-requires
+    (λ c κs. search needs)
+    (λ c κs. search needs)
+    (λ c κs. search needs)
+    (λ c κs. search needs)
     returns-2)

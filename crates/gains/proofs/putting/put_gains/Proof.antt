@@ -7,20 +7,8 @@ use borrow.Author.Needs.{needs}
 use Rattle.gains.proofs.putting.put_gains.Statement.{statement}
 use Rattle.gains.proofs.putting.put_gains.Tie as tie
 
-holdings-grow-requires : tie.Need-holdings-grow-requires
-holdings-grow-requires c κs = search needs
-
 returns : tie.Need-returns
 returns c p m k q r o = holding-new p _ _ _ o k (c .before .holdings-grow .ensures p k q o .sound (c .if1 .taken))
-
-put-permission-requires : tie.Need-put-permission-requires
-put-permission-requires c κs = search needs
-
-enum-known-x : tie.Need-enum-known-x
-enum-known-x c = search needs
-
-enum-told : tie.Need-enum-told
-enum-told c = search needs
 
 returns-2 : tie.Need-returns-2
 returns-2 c p m k q r o =
@@ -38,10 +26,10 @@ pub put-gains-spec : {M : Type 1} → statement M
 put-gains-spec =
     tie.close
     (tie.spec
-    holdings-grow-requires
+    (λ c κs. search needs)
     returns
-    put-permission-requires
-    enum-known-x
-    enum-told
+    (λ c κs. search needs)
+    (λ c. search needs)
+    (λ c. search needs)
     returns-2
     returns-3)

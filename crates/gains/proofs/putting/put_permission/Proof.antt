@@ -9,37 +9,16 @@ use borrow.Author.Needs.{needs}
 use Rattle.gains.proofs.putting.put_permission.Statement.{statement}
 use Rattle.gains.proofs.putting.put_permission.Tie as tie
 
-row-requires : tie.Need-row-requires
-row-requires c κs = search needs
-
-has-requires : tie.Need-has-requires
-has-requires c κs = search needs
-
 returns : tie.Need-returns
 returns c p m k q o =
     let out = decides-not _ (decides-at (c .before .has .ensures) (has-decides _ _)) in
     let none = decides-and _ _ (decides-eqb _ 0) out .sound (c .if1 .taken) in
     no-target p _ _ _ o k (c .before .before .before .row .ensures) (m .targets) (none .0) (none .1)
 
-rule-grows-requires : tie.Need-rule-grows-requires
-rule-grows-requires c κs = search needs
-
 returns-2 : tie.Need-returns-2
 returns-2 c p m k q o =
     no-permission p _ _ _ o k (c .before .before .before .before .before .row .ensures) q
     (refuted (c .before .rule-grows .ensures) (not-true _ (c .if2 .taken)))
-
-put-rows-requires : tie.Need-put-rows-requires
-put-rows-requires c κs = search needs
-
-permitted-requires : tie.Need-permitted-requires
-permitted-requires c κs = search needs
-
-permitted-requires-2 : tie.Need-permitted-requires-2
-permitted-requires-2 c κs = search needs
-
-gained-requires : tie.Need-gained-requires
-gained-requires c κs = search needs
 
 returns-3 : tie.Need-returns-3
 returns-3 c p m k q o =
@@ -54,13 +33,13 @@ pub put-permission-spec : {M : Type 1} → statement M
 put-permission-spec =
     tie.close
     (tie.spec
-    row-requires
-    has-requires
+    (λ c κs. search needs)
+    (λ c κs. search needs)
     returns
-    rule-grows-requires
+    (λ c κs. search needs)
     returns-2
-    put-rows-requires
-    permitted-requires
-    permitted-requires-2
-    gained-requires
+    (λ c κs. search needs)
+    (λ c κs. search needs)
+    (λ c κs. search needs)
+    (λ c κs. search needs)
     returns-3)

@@ -20,15 +20,6 @@ abbrev μ-loop : tie.MeasureT-loop
 loop-holds : tie.Need-loop-holds Inv-loop μ-loop
 loop-holds c = (search needs, λ j l. absurd (omega (arith, l)))
 
-mul-rule-grows-by : tie.Need-mul-rule-grows-by Inv-loop μ-loop
-mul-rule-grows-by c = search needs
-
-array-copy-out-rule-grows-by : tie.Need-array-copy-out-rule-grows-by Inv-loop μ-loop
-array-copy-out-rule-grows-by c = search needs
-
-rule-grows-by-requires : tie.Need-rule-grows-by-requires Inv-loop μ-loop
-rule-grows-by-requires c κs = search needs
-
 returns : tie.Need-returns Inv-loop μ-loop
 returns c =
     decides-yes
@@ -37,12 +28,6 @@ returns c =
       low = search needs;
       at = c .before .rule-grows-by .ensures .sound (c .if1 .taken);
     })
-
-add-i : tie.Need-add-i Inv-loop μ-loop
-add-i c = search needs
-
-loop-less : tie.Need-loop-less Inv-loop μ-loop
-loop-less c = search needs
 
 loop-again : tie.Need-loop-again Inv-loop μ-loop
 loop-again c = (
@@ -60,11 +45,11 @@ rule-grows-spec =
     Inv-loop
     μ-loop
     loop-holds
-    mul-rule-grows-by
-    array-copy-out-rule-grows-by
-    rule-grows-by-requires
+    (λ c. search needs)
+    (λ c. search needs)
+    (λ c κs. search needs)
     returns
-    add-i
-    loop-less
+    (λ c. search needs)
+    (λ c. search needs)
     loop-again
     returns-2)

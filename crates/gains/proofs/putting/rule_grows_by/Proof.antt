@@ -19,18 +19,6 @@ use Rattle.gains.proofs.putting.rule_grows_by.Tie as tie
 returns : tie.Need-returns
 returns c = decides-no (λ h. true≢false (sym (h .used) ∙ not-true _ (c .if1 .taken)))
 
-row-requires : tie.Need-row-requires
-row-requires c κs = search needs
-
-has-requires : tie.Need-has-requires
-has-requires c κs = search needs
-
-row-requires-2 : tie.Need-row-requires-2
-row-requires-2 c κs = search needs
-
-grows-requires : tie.Need-grows-requires
-grows-requires c κs = search needs
-
 returns-2 : tie.Need-returns-2
 returns-2 c =
     let among = c .before .before .before in
@@ -43,12 +31,6 @@ returns-2 c =
     (subst (λ (s : ℕ). Decides (c .grows .result) (Grows s (a .g) (a .below))) (c .before .row2 .ensures) (c .grows .ensures))
     (λ w. record { used = not-false _ (users .before .before .if1 .left); more = inl (user, w) })
     (λ h. ⊎-elim (λ q. q .1) (λ q. absurd (q .0 user)) (h .more))
-
-has-requires-2 : tie.Need-has-requires-2
-has-requires-2 c κs = search needs
-
-has-requires-3 : tie.Need-has-requires-3
-has-requires-3 c κs = search needs
 
 returns-3 : tie.Need-returns-3
 returns-3 c =
@@ -74,11 +56,11 @@ rule-grows-by-spec =
     tie.close
     (tie.spec
     returns
-    row-requires
-    has-requires
-    row-requires-2
-    grows-requires
+    (λ c κs. search needs)
+    (λ c κs. search needs)
+    (λ c κs. search needs)
+    (λ c κs. search needs)
     returns-2
-    has-requires-2
-    has-requires-3
+    (λ c κs. search needs)
+    (λ c κs. search needs)
     returns-3)

@@ -35,21 +35,6 @@ module _ (p : Policy) (u : ℕ) {objects : ℕ} (o : SetOf objects (InUse (view 
         row = λ k l. set-as (w .row k l) (λ x w. (o .only x (w .0), w .1)) (λ x w. (o .all x (w .0), w .1));
       }
 
-masks-requires : tie.Need-masks-requires
-masks-requires c κs = search needs
-
-permissions-requires : tie.Need-permissions-requires
-permissions-requires c κs = search needs
-
-after-requires : tie.Need-after-requires
-after-requires c κs = search needs
-
-permissions-requires-2 : tie.Need-permissions-requires-2
-permissions-requires-2 c κs = search needs
-
-gained-requires : tie.Need-gained-requires
-gained-requires c κs = search needs
-
 returns : tie.Need-returns
 returns c =
     let had = c .before .before .before in
@@ -65,9 +50,9 @@ pub permission-gained-spec : {M : Type 1} → statement M
 permission-gained-spec =
     tie.close
     (tie.spec
-    masks-requires
-    permissions-requires
-    after-requires
-    permissions-requires-2
-    gained-requires
+    (λ c κs. search needs)
+    (λ c κs. search needs)
+    (λ c κs. search needs)
+    (λ c κs. search needs)
+    (λ c κs. search needs)
     returns)

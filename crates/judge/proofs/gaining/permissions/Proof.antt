@@ -21,24 +21,6 @@ abbrev μ-loop : tie.MeasureT-loop
 loop-holds : tie.Need-loop-holds Inv-loop μ-loop
 loop-holds c = (search needs, filled-none (length-replicate {A = ℕ} 8 0))
 
-cast-i : tie.Need-cast-i Inv-loop μ-loop
-cast-i c = search needs
-
-permitted-requires : tie.Need-permitted-requires Inv-loop μ-loop
-permitted-requires c κs = search needs
-
-mul-sets : tie.Need-mul-sets Inv-loop μ-loop
-mul-sets c = search needs
-
-array-write-sets : tie.Need-array-write-sets Inv-loop μ-loop
-array-write-sets c = search needs
-
-add-k : tie.Need-add-k Inv-loop μ-loop
-add-k c = search needs
-
-loop-less : tie.Need-loop-less Inv-loop μ-loop
-loop-less c = search needs
-
 loop-again : tie.Need-loop-again Inv-loop μ-loop
 loop-again c =
     let l = c .before .before in
@@ -54,11 +36,11 @@ permissions-spec =
     Inv-loop
     μ-loop
     loop-holds
-    cast-i
-    permitted-requires
-    mul-sets
-    array-write-sets
-    add-k
-    loop-less
+    (λ c. search needs)
+    (λ c κs. search needs)
+    (λ c. search needs)
+    (λ c. search needs)
+    (λ c. search needs)
+    (λ c. search needs)
     loop-again
     returns)

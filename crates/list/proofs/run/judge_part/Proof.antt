@@ -10,25 +10,10 @@ use Rattle.list.proofs.run.judge_part.Reads as reads
 use Rattle.list.proofs.run.judge_part.Lts as lts
 use Rattle.judge.proofs.judge.Reads as judge-reads
 
-part-judge-start : tie.Need-part-judge-start
-part-judge-start c = search needs
-
-part-judge-end : tie.Need-part-judge-end
-part-judge-end c = search needs
-
-judge-requires : tie.Need-judge-requires
-judge-requires c κs = search needs
-
 returns : tie.Need-returns
 returns c =
     let slice = c .before .before in
     c .judge .ensures .0 ∙ ap (judge _) (sym (part-within _ _ _ (slice .before .if1 .taken) (slice .if2 .taken)))
-
-slice-aggregate-judge : tie.Need-slice-aggregate-judge
-slice-aggregate-judge c = search needs
-
-judge-requires-2 : tie.Need-judge-requires-2
-judge-requires-2 c κs = search needs
 
 returns-2 : tie.Need-returns-2
 returns-2 c =
@@ -39,10 +24,10 @@ pub judge-part-spec : {M : Type 1} → statement M
 judge-part-spec =
     tie.close
     (tie.spec
-    part-judge-start
-    part-judge-end
-    judge-requires
+    (λ c. search needs)
+    (λ c. search needs)
+    (λ c κs. search needs)
     returns
-    slice-aggregate-judge
-    judge-requires-2
+    (λ c. search needs)
+    (λ c κs. search needs)
     returns-2)

@@ -30,38 +30,17 @@ returns-2 c = too-few-cited _ _ _ _ _ (omega (arith, c .if2 .taken))
 loop-holds : tie.Need-loop-holds Inv-loop μ-loop
 loop-holds c = running-start _ _ _ _ _ (omega (arith, c .before .if1 .left)) (omega (arith, c .if2 .left))
 
-mul-end : tie.Need-mul-end Inv-loop μ-loop
-mul-end c = search needs
-
-shared-slice-read-end : tie.Need-shared-slice-read-end Inv-loop μ-loop
-shared-slice-read-end c = search needs
-
-judge-part-requires : tie.Need-judge-part-requires Inv-loop μ-loop
-judge-part-requires c κs = search needs
-
-code-of-requires : tie.Need-code-of-requires Inv-loop μ-loop
-code-of-requires c κs = search needs
-
 slice-write-codes : tie.Need-slice-write-codes Inv-loop μ-loop
 slice-write-codes c =
     let turn = c .before .before .before in
     let s = turn .before .loop .inv in
     omega (arith, turn .loop-test .taken, s .codes-room, running-codes _ _ _ _ _ s)
 
-cited-of-requires : tie.Need-cited-of-requires Inv-loop μ-loop
-cited-of-requires c κs = search needs
-
 slice-write-cited : tie.Need-slice-write-cited Inv-loop μ-loop
 slice-write-cited c =
     let turn = c .before .before .before .before in
     let s = turn .before .loop .inv in
     omega (arith, turn .loop-test .taken, s .cited-room, running-cited _ _ _ _ _ s)
-
-add-i : tie.Need-add-i Inv-loop μ-loop
-add-i c = search needs
-
-loop-less : tie.Need-loop-less Inv-loop μ-loop
-loop-less c = search needs
 
 loop-again : tie.Need-loop-again Inv-loop μ-loop
 loop-again c =
@@ -92,15 +71,15 @@ run-from-spec =
     returns
     returns-2
     loop-holds
-    mul-end
-    shared-slice-read-end
-    judge-part-requires
-    code-of-requires
+    (λ c. search needs)
+    (λ c. search needs)
+    (λ c κs. search needs)
+    (λ c κs. search needs)
     slice-write-codes
-    cited-of-requires
+    (λ c κs. search needs)
     slice-write-cited
-    add-i
-    loop-less
+    (λ c. search needs)
+    (λ c. search needs)
     loop-again
     same-length
     same-length-2

@@ -4,12 +4,9 @@ use borrow.Author.Needs.{needs}
 use Rattle.reach.proofs.Appointment.standing.Statement.{statement}
 use Rattle.reach.proofs.Appointment.standing.Tie as tie
 
-counted-requires : tie.Need-counted-requires
-counted-requires c κs = search needs
-
 returns : tie.Need-returns
 unfolding standing
 returns c = rw (c .counted .ensures)
 
 pub standing-spec : {M : Type 1} → statement M
-standing-spec = tie.close (tie.spec counted-requires returns)
+standing-spec = tie.close (tie.spec (λ c κs. search needs) returns)

@@ -6,14 +6,8 @@ use borrow.Author.Needs.{needs}
 use Rattle.reach.proofs.Policy.administers.Statement.{statement}
 use Rattle.reach.proofs.Policy.administers.Tie as tie
 
-administered-requires : tie.Need-administered-requires
-administered-requires c κs = search needs
-
-has-requires : tie.Need-has-requires
-has-requires c κs = search needs
-
 returns : tie.Need-returns
 returns c = c .has .ensures ∙ has-is (c .before .administered .ensures) _ _ (administers-decides _ _ _ _)
 
 pub administers-spec : {M : Type 1} → statement M
-administers-spec = tie.close (tie.spec administered-requires has-requires returns)
+administers-spec = tie.close (tie.spec (λ c κs. search needs) (λ c κs. search needs) returns)

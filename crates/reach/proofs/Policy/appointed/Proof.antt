@@ -5,12 +5,9 @@ use borrow.Author.Needs.{needs}
 use Rattle.reach.proofs.Policy.appointed.Statement.{statement}
 use Rattle.reach.proofs.Policy.appointed.Tie as tie
 
-appointed-at-requires : tie.Need-appointed-at-requires
-appointed-at-requires c κs = search needs
-
 returns : tie.Need-returns
 unfolding appointed
 returns c = ap (withAppointments (c .before .before .args .self)) (c .appointed-at .ensures)
 
 pub appointed-spec : {M : Type 1} → statement M
-appointed-spec = tie.close (tie.spec appointed-at-requires returns)
+appointed-spec = tie.close (tie.spec (λ c κs. search needs) returns)

@@ -5,12 +5,9 @@ use borrow.Author.Needs.{needs}
 use Rattle.reach.proofs.Policy.granted.Statement.{statement}
 use Rattle.reach.proofs.Policy.granted.Tie as tie
 
-ruled-at-requires : tie.Need-ruled-at-requires
-ruled-at-requires c κs = search needs
-
 returns : tie.Need-returns
 unfolding ruled
 returns c = ap (withRules (c .before .before .args .self)) (c .ruled-at .ensures)
 
 pub granted-spec : {M : Type 1} → statement M
-granted-spec = tie.close (tie.spec ruled-at-requires returns)
+granted-spec = tie.close (tie.spec (λ c κs. search needs) returns)

@@ -4,12 +4,9 @@ use borrow.Author.Needs.{needs}
 use Rattle.reach.proofs.Policy.in_use.Statement.{statement}
 use Rattle.reach.proofs.Policy.in_use.Tie as tie
 
-sort-requires : tie.Need-sort-requires
-sort-requires c κs = search needs
-
 returns : tie.Need-returns
 unfolding inUse
 returns c = rw (c .sort .ensures)
 
 pub in-use-spec : {M : Type 1} → statement M
-in-use-spec = tie.close (tie.spec sort-requires returns)
+in-use-spec = tie.close (tie.spec (λ c κs. search needs) returns)

@@ -3,11 +3,8 @@ use borrow.Author.Needs.{needs}
 use Rattle.reach.proofs.Policy.is_target.Statement.{statement}
 use Rattle.reach.proofs.Policy.is_target.Tie as tie
 
-sort-requires : tie.Need-sort-requires
-sort-requires c κs = search needs
-
 returns : tie.Need-returns
 returns c = rw (c .sort .ensures)
 
 pub is-target-spec : {M : Type 1} → statement M
-is-target-spec = tie.close (tie.spec sort-requires returns)
+is-target-spec = tie.close (tie.spec (λ c κs. search needs) returns)

@@ -8,12 +8,6 @@ use borrow.Author.Needs.{needs}
 use Rattle.reach.proofs.Policy.made.Statement.{statement}
 use Rattle.reach.proofs.Policy.made.Tie as tie
 
-sorted-as-requires : tie.Need-sorted-as-requires
-sorted-as-requires c κs = search needs
-
-made-in-requires : tie.Need-made-in-requires
-made-in-requires c κs = search needs
-
 returns : tie.Need-returns
 returns c =
     let b = c .before .before in
@@ -22,4 +16,4 @@ returns c =
     ∙ made-is (a .self) (a .x) (a .sort) (a .g)
 
 pub made-spec : {M : Type 1} → statement M
-made-spec = tie.close (tie.spec sorted-as-requires made-in-requires returns)
+made-spec = tie.close (tie.spec (λ c κs. search needs) (λ c κs. search needs) returns)

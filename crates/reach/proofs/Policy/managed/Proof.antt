@@ -4,14 +4,8 @@ use borrow.Author.Needs.{needs}
 use Rattle.reach.proofs.Policy.managed.Statement.{statement}
 use Rattle.reach.proofs.Policy.managed.Tie as tie
 
-masks-requires : tie.Need-masks-requires
-masks-requires c κs = search needs
-
-held-requires : tie.Need-held-requires
-held-requires c κs = search needs
-
 returns : tie.Need-returns
 returns c = c .held .ensures _ (record { rows = refl; masks = c .before .before .before .before .masks .ensures }) refl
 
 pub managed-spec : {M : Type 1} → statement M
-managed-spec = tie.close (tie.spec masks-requires held-requires returns)
+managed-spec = tie.close (tie.spec (λ c κs. search needs) (λ c κs. search needs) returns)

@@ -6,14 +6,8 @@ use borrow.Author.Needs.{needs}
 use Rattle.reach.proofs.Policy.manages.Statement.{statement}
 use Rattle.reach.proofs.Policy.manages.Tie as tie
 
-managed-requires : tie.Need-managed-requires
-managed-requires c κs = search needs
-
-has-requires : tie.Need-has-requires
-has-requires c κs = search needs
-
 returns : tie.Need-returns
 returns c = c .has .ensures ∙ has-is (c .before .managed .ensures) _ _ (holds-decides _ _ _ _)
 
 pub manages-spec : {M : Type 1} → statement M
-manages-spec = tie.close (tie.spec managed-requires has-requires returns)
+manages-spec = tie.close (tie.spec (λ c κs. search needs) (λ c κs. search needs) returns)

@@ -4,11 +4,8 @@ use borrow.Author.Needs.{needs}
 use Rattle.reach.proofs.Policy.masks.Statement.{statement}
 use Rattle.reach.proofs.Policy.masks.Tie as tie
 
-masks-of-requires : tie.Need-masks-of-requires
-masks-of-requires c κs = search needs
-
 returns : tie.Need-returns
 returns c = c .masks-of .ensures _ refl
 
 pub masks-spec : {M : Type 1} → statement M
-masks-spec = tie.close (tie.spec masks-of-requires returns)
+masks-spec = tie.close (tie.spec (λ c κs. search needs) returns)

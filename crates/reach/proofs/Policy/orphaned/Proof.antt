@@ -4,14 +4,8 @@ use borrow.Author.Needs.{needs}
 use Rattle.reach.proofs.Policy.orphaned.Statement.{statement}
 use Rattle.reach.proofs.Policy.orphaned.Tie as tie
 
-masks-requires : tie.Need-masks-requires
-masks-requires c κs = search needs
-
-orphaned-requires : tie.Need-orphaned-requires
-orphaned-requires c κs = search needs
-
 returns : tie.Need-returns
 returns c = c .orphaned .ensures _ (record { rows = refl; masks = c .before .before .before .before .masks .ensures }) refl
 
 pub orphaned-spec : {M : Type 1} → statement M
-orphaned-spec = tie.close (tie.spec masks-requires orphaned-requires returns)
+orphaned-spec = tie.close (tie.spec (λ c κs. search needs) (λ c κs. search needs) returns)

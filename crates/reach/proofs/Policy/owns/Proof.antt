@@ -6,14 +6,8 @@ use borrow.Author.Needs.{needs}
 use Rattle.reach.proofs.Policy.owns.Statement.{statement}
 use Rattle.reach.proofs.Policy.owns.Tie as tie
 
-owned-requires : tie.Need-owned-requires
-owned-requires c κs = search needs
-
-has-requires : tie.Need-has-requires
-has-requires c κs = search needs
-
 returns : tie.Need-returns
 returns c = c .has .ensures ∙ has-is (c .before .owned .ensures) _ _ (holds-decides _ _ _ _)
 
 pub owns-spec : {M : Type 1} → statement M
-owns-spec = tie.close (tie.spec owned-requires has-requires returns)
+owns-spec = tie.close (tie.spec (λ c κs. search needs) (λ c κs. search needs) returns)

@@ -17,12 +17,6 @@ Inv-loop u k self m rules set₀ i₀ set i = (i ≤ 64) × Union (λ j x. Permi
 abbrev μ-loop : tie.MeasureT-loop
 μ-loop u k self m rules set₀ i₀ set i = 64 - i
 
-masks-requires : tie.Need-masks-requires Inv-loop μ-loop
-masks-requires c κs = search needs
-
-has-requires : tie.Need-has-requires Inv-loop μ-loop
-has-requires c κs = search needs
-
 returns : tie.Need-returns Inv-loop μ-loop
 returns c = set-none (λ x h. set-outside _ (c .before .has .ensures) (c .if1 .taken) (c .before .before .masks .ensures .users) (h .user))
 
@@ -32,20 +26,8 @@ returns-2 c = set-none (λ x h. omega (arith, h .number, c .if2 .taken))
 loop-holds : tie.Need-loop-holds Inv-loop μ-loop
 loop-holds c = (search needs, union-none _)
 
-mul-permitted-by : tie.Need-mul-permitted-by Inv-loop μ-loop
-mul-permitted-by c = search needs
-
 array-copy-out-permitted-by : tie.Need-array-copy-out-permitted-by Inv-loop μ-loop
 array-copy-out-permitted-by c = c .before .before .loop-test .taken
-
-permitted-by-requires : tie.Need-permitted-by-requires Inv-loop μ-loop
-permitted-by-requires c κs = search needs
-
-add-i : tie.Need-add-i Inv-loop μ-loop
-add-i c = search needs
-
-loop-less : tie.Need-loop-less Inv-loop μ-loop
-loop-less c = search needs
 
 loop-again : tie.Need-loop-again Inv-loop μ-loop
 loop-again c =
@@ -76,15 +58,15 @@ permitted-spec =
     (tie.spec
     Inv-loop
     μ-loop
-    masks-requires
-    has-requires
+    (λ c κs. search needs)
+    (λ c κs. search needs)
     returns
     returns-2
     loop-holds
-    mul-permitted-by
+    (λ c. search needs)
     array-copy-out-permitted-by
-    permitted-by-requires
-    add-i
-    loop-less
+    (λ c κs. search needs)
+    (λ c. search needs)
+    (λ c. search needs)
     loop-again
     returns-3)

@@ -4,14 +4,8 @@ use borrow.Author.Needs.{needs}
 use Rattle.reach.proofs.Policy.permitting.Statement.{statement}
 use Rattle.reach.proofs.Policy.permitting.Tie as tie
 
-masks-requires : tie.Need-masks-requires
-masks-requires c κs = search needs
-
-permitting-requires : tie.Need-permitting-requires
-permitting-requires c κs = search needs
-
 returns : tie.Need-returns
 returns c = c .permitting .ensures _ (record { rows = refl; masks = c .before .before .before .before .masks .ensures }) refl
 
 pub permitting-spec : {M : Type 1} → statement M
-permitting-spec = tie.close (tie.spec masks-requires permitting-requires returns)
+permitting-spec = tie.close (tie.spec (λ c κs. search needs) (λ c κs. search needs) returns)

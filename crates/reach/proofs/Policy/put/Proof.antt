@@ -6,13 +6,10 @@ use borrow.Author.Needs.{needs}
 use Rattle.reach.proofs.Policy.put.Statement.{statement}
 use Rattle.reach.proofs.Policy.put.Tie as tie
 
-put-into-requires : tie.Need-put-into-requires
-put-into-requires c κs = search needs
-
 returns : tie.Need-returns
 returns c =
     let a = c .before .before .args in
     ap (withMembers (a .self)) (c .put-into .ensures) ∙ put-is (a .self) (a .x) (a .g)
 
 pub put-spec : {M : Type 1} → statement M
-put-spec = tie.close (tie.spec put-into-requires returns)
+put-spec = tie.close (tie.spec (λ c κs. search needs) returns)

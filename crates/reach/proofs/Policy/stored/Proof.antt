@@ -10,15 +10,6 @@ use borrow.Author.Needs.{needs}
 use Rattle.reach.proofs.Policy.stored.Statement.{statement}
 use Rattle.reach.proofs.Policy.stored.Tie as tie
 
-mul-has : tie.Need-mul-has
-mul-has c = search needs
-
-element-copy-out-has : tie.Need-element-copy-out-has
-element-copy-out-has c = search needs
-
-has-requires : tie.Need-has-requires
-has-requires c κs = search needs
-
 returns : tie.Need-returns
 unfolding stored
 returns c = c .has .ensures
@@ -31,4 +22,4 @@ returns-2 c =
     rw (getD-past (a .t1 .members) (a .g) 0 (omega (arith, long, c .if1 .left)), bit-zero)
 
 pub stored-spec : {M : Type 1} → statement M
-stored-spec = tie.close (tie.spec mul-has element-copy-out-has has-requires returns returns-2)
+stored-spec = tie.close (tie.spec (λ c. search needs) (λ c. search needs) (λ c κs. search needs) returns returns-2)

@@ -6,13 +6,10 @@ use borrow.Author.Needs.{needs}
 use Rattle.reach.proofs.Policy.taken.Statement.{statement}
 use Rattle.reach.proofs.Policy.taken.Tie as tie
 
-taken-from-requires : tie.Need-taken-from-requires
-taken-from-requires c κs = search needs
-
 returns : tie.Need-returns
 returns c =
     let a = c .before .before .args in
     ap (withMembers (a .self)) (c .taken-from .ensures) ∙ taken-is (a .self) (a .x) (a .g)
 
 pub taken-spec : {M : Type 1} → statement M
-taken-spec = tie.close (tie.spec taken-from-requires returns)
+taken-spec = tie.close (tie.spec (λ c κs. search needs) returns)

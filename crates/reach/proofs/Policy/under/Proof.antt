@@ -6,14 +6,8 @@ use Rattle.reach.proofs.Chains.{under-decides}
 use Rattle.reach.proofs.Policy.under.Statement.{statement}
 use Rattle.reach.proofs.Policy.under.Tie as tie
 
-under-set-requires : tie.Need-under-set-requires
-under-set-requires c κs = search needs
-
-has-requires : tie.Need-has-requires
-has-requires c κs = search needs
-
 returns : tie.Need-returns
 returns c = c .has .ensures ∙ has-is (c .before .under-set .ensures) _ _ (under-decides _ _ _)
 
 pub under-spec : {M : Type 1} → statement M
-under-spec = tie.close (tie.spec under-set-requires has-requires returns)
+under-spec = tie.close (tie.spec (λ c κs. search needs) (λ c κs. search needs) returns)

@@ -5,12 +5,9 @@ use borrow.Author.Needs.{needs}
 use Rattle.reach.proofs.Policy.withdrawn.Statement.{statement}
 use Rattle.reach.proofs.Policy.withdrawn.Tie as tie
 
-ruled-at-requires : tie.Need-ruled-at-requires
-ruled-at-requires c κs = search needs
-
 returns : tie.Need-returns
 unfolding ruled
 returns c = ap (withRules (c .before .before .args .self)) (c .ruled-at .ensures)
 
 pub withdrawn-spec : {M : Type 1} → statement M
-withdrawn-spec = tie.close (tie.spec ruled-at-requires returns)
+withdrawn-spec = tie.close (tie.spec (λ c κs. search needs) returns)

@@ -8,15 +8,6 @@ use borrow.Author.Needs.{needs}
 use Rattle.reach.proofs.objects.rule_at.Statement.{statement}
 use Rattle.reach.proofs.objects.rule_at.Tie as tie
 
-mul-result : tie.Need-mul-result
-mul-result c = search needs
-
-array-copy-out-result : tie.Need-array-copy-out-result
-array-copy-out-result c = search needs
-
-returns : tie.Need-returns
-returns c = search needs
-
 returns-2 : tie.Need-returns-2
 returns-2 c =
     let a = c .before .args in
@@ -24,4 +15,4 @@ returns-2 c =
     sym (getD-past (a .t1) (a .i) noRule (omega (arith, long, c .if1 .left)))
 
 pub rule-at-spec : {M : Type 1} → statement M
-rule-at-spec = tie.close (tie.spec mul-result array-copy-out-result returns returns-2)
+rule-at-spec = tie.close (tie.spec (λ c. search needs) (λ c. search needs) (λ c. search needs) returns-2)

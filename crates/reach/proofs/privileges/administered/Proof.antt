@@ -19,29 +19,14 @@ Inv-loop members m u a appointments set₀ i₀ set i =
 abbrev μ-loop : tie.MeasureT-loop
 μ-loop members m u a appointments set₀ i₀ set i = 32 - i
 
-has-requires : tie.Need-has-requires Inv-loop μ-loop
-has-requires c κs = search needs
-
 returns : tie.Need-returns Inv-loop μ-loop
 returns c = λ p k e. set-none (λ x h. set-outside _ (c .before .has .ensures) (c .if1 .taken) (k .masks .users) (h .user))
 
 loop-holds : tie.Need-loop-holds Inv-loop μ-loop
 loop-holds c = (search needs, λ p k e. union-none _)
 
-mul-administered-by : tie.Need-mul-administered-by Inv-loop μ-loop
-mul-administered-by c = search needs
-
 array-copy-out-administered-by : tie.Need-array-copy-out-administered-by Inv-loop μ-loop
 array-copy-out-administered-by c = c .loop-test .taken
-
-administered-by-requires : tie.Need-administered-by-requires Inv-loop μ-loop
-administered-by-requires c κs = search needs
-
-add-i : tie.Need-add-i Inv-loop μ-loop
-add-i c = search needs
-
-loop-less : tie.Need-loop-less Inv-loop μ-loop
-loop-less c = search needs
 
 loop-again : tie.Need-loop-again Inv-loop μ-loop
 loop-again c = (
@@ -63,13 +48,13 @@ administered-spec =
     (tie.spec
     Inv-loop
     μ-loop
-    has-requires
+    (λ c κs. search needs)
     returns
     loop-holds
-    mul-administered-by
+    (λ c. search needs)
     array-copy-out-administered-by
-    administered-by-requires
-    add-i
-    loop-less
+    (λ c κs. search needs)
+    (λ c. search needs)
+    (λ c. search needs)
     loop-again
     returns-2)

@@ -10,18 +10,9 @@ returns c = λ p k. set-none (λ x h. c .if1 .taken (h .0 .1))
 returns-2 : tie.Need-returns-2
 returns-2 c = λ p k. set-none (λ x h. c .if2 .taken (h .0 .0))
 
-search-requires : tie.Need-search-requires
-search-requires c κs = search needs
-
-has-requires : tie.Need-has-requires
-has-requires c κs = search needs
-
 returns-3 : tie.Need-returns-3
 returns-3 c = λ p k.
     set-none (λ x h. set-outside _ (c .before .has .ensures) (c .if3 .taken) (c .before .before .search .ensures p k) (h .1 .0))
-
-search-requires-2 : tie.Need-search-requires-2
-search-requires-2 c κs = search needs
 
 returns-4 : tie.Need-returns-4
 returns-4 c = λ p k.
@@ -36,4 +27,4 @@ returns-4 c = λ p k.
 pub administered-by-spec : {M : Type 1} → statement M
 administered-by-spec =
     tie.close
-    (tie.spec returns returns-2 search-requires has-requires returns-3 search-requires-2 returns-4)
+    (tie.spec returns returns-2 (λ c κs. search needs) (λ c κs. search needs) returns-3 (λ c κs. search needs) returns-4)

@@ -7,20 +7,8 @@ use borrow.Author.Needs.{needs}
 use Rattle.reach.proofs.privileges.ask.Statement.{statement}
 use Rattle.reach.proofs.privileges.ask.Tie as tie
 
-has-requires : tie.Need-has-requires
-has-requires c κs = search needs
-
 returns : tie.Need-returns
 returns c = λ p k t. (t, has-decides _ _ .sound (sym (c .before .has .ensures) ∙ c .if1 .taken))
-
-shl-one : tie.Need-shl-one
-shl-one c = search needs
-
-search-requires : tie.Need-search-requires
-search-requires c κs = search needs
-
-has-requires-2 : tie.Need-has-requires-2
-has-requires-2 c κs = search needs
 
 returns-2 : tie.Need-returns-2
 returns-2 c = λ p k t.
@@ -39,4 +27,4 @@ returns-3 c = λ p k t.
 pub ask-spec : {M : Type 1} → statement M
 ask-spec =
     tie.close
-    (tie.spec has-requires returns shl-one search-requires has-requires-2 returns-2 returns-3)
+    (tie.spec (λ c κs. search needs) returns (λ c. search needs) (λ c κs. search needs) (λ c κs. search needs) returns-2 returns-3)

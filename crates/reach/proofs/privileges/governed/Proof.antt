@@ -23,9 +23,6 @@ Inv-loop members m u appointments set₀ i₀ set i =
 abbrev μ-loop : tie.MeasureT-loop
 μ-loop members m u appointments set₀ i₀ set i = 32 - i
 
-has-requires : tie.Need-has-requires Inv-loop μ-loop
-has-requires c κs = search needs
-
 returns : tie.Need-returns Inv-loop μ-loop
 returns c = λ p k e.
     set-none (λ x h. set-outside _ (c .before .has .ensures) (c .if1 .taken) (k .masks .users) (⊎-elim (λ o. o .user) (λ g. g .user) h))
@@ -33,20 +30,8 @@ returns c = λ p k e.
 loop-holds : tie.Need-loop-holds Inv-loop μ-loop
 loop-holds c = (search needs, λ p k e. union-none _)
 
-mul-governed-by : tie.Need-mul-governed-by Inv-loop μ-loop
-mul-governed-by c = search needs
-
 array-copy-out-governed-by : tie.Need-array-copy-out-governed-by Inv-loop μ-loop
 array-copy-out-governed-by c = c .loop-test .taken
-
-governed-by-requires : tie.Need-governed-by-requires Inv-loop μ-loop
-governed-by-requires c κs = search needs
-
-add-i : tie.Need-add-i Inv-loop μ-loop
-add-i c = search needs
-
-loop-less : tie.Need-loop-less Inv-loop μ-loop
-loop-less c = search needs
 
 loop-again : tie.Need-loop-again Inv-loop μ-loop
 loop-again c = (
@@ -72,13 +57,13 @@ governed-spec =
     (tie.spec
     Inv-loop
     μ-loop
-    has-requires
+    (λ c κs. search needs)
     returns
     loop-holds
-    mul-governed-by
+    (λ c. search needs)
     array-copy-out-governed-by
-    governed-by-requires
-    add-i
-    loop-less
+    (λ c κs. search needs)
+    (λ c. search needs)
+    (λ c. search needs)
     loop-again
     returns-2)

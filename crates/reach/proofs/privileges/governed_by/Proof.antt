@@ -12,13 +12,10 @@ returns c = λ p k. set-none (λ x h. c .if1 .taken (h .0 .1))
 returns-2 : tie.Need-returns-2
 returns-2 c = λ p k. set-none (λ x h. refuted (decides-or _ _ (decides-eqb _ 1) (decides-eqb _ 2)) (not-true _ (c .if2 .taken)) (h .0 .0))
 
-search-requires : tie.Need-search-requires
-search-requires c κs = search needs
-
 returns-3 : tie.Need-returns-3
 returns-3 c = λ p k.
     let kind = decides-or _ _ (decides-eqb _ 1) (decides-eqb _ 2) .sound (not-false _ (c .before .if2 .left)) in
     set-as (c .search .ensures p k) (λ x r. ((kind, c .before .before .before .before .if1 .left), r)) (λ x h. h .1)
 
 pub governed-by-spec : {M : Type 1} → statement M
-governed-by-spec = tie.close (tie.spec returns returns-2 search-requires returns-3)
+governed-by-spec = tie.close (tie.spec returns returns-2 (λ c κs. search needs) returns-3)

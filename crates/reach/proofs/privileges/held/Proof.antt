@@ -19,29 +19,14 @@ Inv-loop members m kind u appointments set₀ i₀ set i =
 abbrev μ-loop : tie.MeasureT-loop
 μ-loop members m kind u appointments set₀ i₀ set i = 32 - i
 
-has-requires : tie.Need-has-requires Inv-loop μ-loop
-has-requires c κs = search needs
-
 returns : tie.Need-returns Inv-loop μ-loop
 returns c = λ p k e. set-none (λ x h. set-outside _ (c .before .has .ensures) (c .if1 .taken) (k .masks .users) (h .user))
 
 loop-holds : tie.Need-loop-holds Inv-loop μ-loop
 loop-holds c = (search needs, λ p k e. union-none _)
 
-mul-held-by : tie.Need-mul-held-by Inv-loop μ-loop
-mul-held-by c = search needs
-
 array-copy-out-held-by : tie.Need-array-copy-out-held-by Inv-loop μ-loop
 array-copy-out-held-by c = c .loop-test .taken
-
-held-by-requires : tie.Need-held-by-requires Inv-loop μ-loop
-held-by-requires c κs = search needs
-
-add-i : tie.Need-add-i Inv-loop μ-loop
-add-i c = search needs
-
-loop-less : tie.Need-loop-less Inv-loop μ-loop
-loop-less c = search needs
 
 loop-again : tie.Need-loop-again Inv-loop μ-loop
 loop-again c = (
@@ -63,13 +48,13 @@ held-spec =
     (tie.spec
     Inv-loop
     μ-loop
-    has-requires
+    (λ c κs. search needs)
     returns
     loop-holds
-    mul-held-by
+    (λ c. search needs)
     array-copy-out-held-by
-    held-by-requires
-    add-i
-    loop-less
+    (λ c κs. search needs)
+    (λ c. search needs)
+    (λ c. search needs)
     loop-again
     returns-2)

@@ -21,14 +21,8 @@ abbrev μ-loop : tie.MeasureT-loop
 loop-holds : tie.Need-loop-holds Inv-loop μ-loop
 loop-holds c = (search needs, λ p k e. union-none _)
 
-mul-owned-by : tie.Need-mul-owned-by Inv-loop μ-loop
-mul-owned-by c = search needs
-
 array-copy-out-owned-by : tie.Need-array-copy-out-owned-by Inv-loop μ-loop
 array-copy-out-owned-by c = c .loop-test .taken
-
-owned-by-requires : tie.Need-owned-by-requires Inv-loop μ-loop
-owned-by-requires c κs = search needs
 
 returns : tie.Need-returns Inv-loop μ-loop
 returns c = λ p k e.
@@ -36,12 +30,6 @@ returns c = λ p k e.
     orphan-none p (k .masks .objects) (l .loop .i + 1) (search needs)
     (union-add _ (l .loop .inv .1 p k e) (place-owns p e _ (c .before .before .owned-by .ensures p k)))
     (c .if1 .taken)
-
-add-i : tie.Need-add-i Inv-loop μ-loop
-add-i c = search needs
-
-loop-less : tie.Need-loop-less Inv-loop μ-loop
-loop-less c = search needs
 
 loop-again : tie.Need-loop-again Inv-loop μ-loop
 loop-again c =
@@ -62,11 +50,11 @@ orphaned-spec =
     Inv-loop
     μ-loop
     loop-holds
-    mul-owned-by
+    (λ c. search needs)
     array-copy-out-owned-by
-    owned-by-requires
+    (λ c κs. search needs)
     returns
-    add-i
-    loop-less
+    (λ c. search needs)
+    (λ c. search needs)
     loop-again
     returns-2)

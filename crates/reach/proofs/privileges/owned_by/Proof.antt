@@ -7,14 +7,8 @@ use Rattle.reach.proofs.privileges.owned_by.Tie as tie
 returns : tie.Need-returns
 returns c = λ p k. set-none (λ x h. c .if1 .taken (h .0 .0))
 
-has-requires : tie.Need-has-requires
-has-requires c κs = search needs
-
 returns-2 : tie.Need-returns-2
 returns-2 c = λ p k. set-none (λ x h. set-outside _ (c .before .has .ensures) (c .if2 .taken) (k .masks .users) (h .0 .1))
-
-search-requires : tie.Need-search-requires
-search-requires c κs = search needs
 
 returns-3 : tie.Need-returns-3
 returns-3 c = λ p k.
@@ -22,4 +16,4 @@ returns-3 c = λ p k.
     set-as (c .search .ensures p k) (λ x r. ((c .before .before .before .if1 .left, user), r)) (λ x h. h .1)
 
 pub owned-by-spec : {M : Type 1} → statement M
-owned-by-spec = tie.close (tie.spec returns has-requires returns-2 search-requires returns-3)
+owned-by-spec = tie.close (tie.spec returns (λ c κs. search needs) returns-2 (λ c κs. search needs) returns-3)

@@ -42,12 +42,6 @@ fit c =
     let rule = getD (l .before .before .before .before .args .t3) (l .loop .i) noRule in
     decides-fit rule _ _ (c .before .before .before .has3 .ensures) .sound (c .if3 .taken)
 
-has-requires : tie.Need-has-requires Inv-loop μ-loop
-has-requires c κs = search needs
-
-has-requires-2 : tie.Need-has-requires-2 Inv-loop μ-loop
-has-requires-2 c κs = search needs
-
 returns : tie.Need-returns Inv-loop μ-loop
 returns c = λ p t e.
     permitting-not p _ _ _
@@ -57,32 +51,14 @@ returns c = λ p t e.
 loop-holds : tie.Need-loop-holds Inv-loop μ-loop
 loop-holds c = (search needs, λ p t e. ((told-none p _, told-none p _), none-start _))
 
-cast-n : tie.Need-cast-n Inv-loop μ-loop
-cast-n c = search needs
-
-mul-rule : tie.Need-mul-rule Inv-loop μ-loop
-mul-rule c = search needs
-
 array-copy-out-rule : tie.Need-array-copy-out-rule Inv-loop μ-loop
 array-copy-out-rule c = c .loop-test .taken
-
-cast-has : tie.Need-cast-has Inv-loop μ-loop
-cast-has c = search needs
-
-has-requires-3 : tie.Need-has-requires-3 Inv-loop μ-loop
-has-requires-3 c κs = search needs
 
 ask-requires : tie.Need-ask-requires Inv-loop μ-loop
 ask-requires c κs = fit c .0 .1
 
-has-requires-4 : tie.Need-has-requires-4 Inv-loop μ-loop
-has-requires-4 c κs = search needs
-
 ask-requires-2 : tie.Need-ask-requires-2 Inv-loop μ-loop
 ask-requires-2 c κs = fit (c .before .before .before) .1
-
-has-requires-5 : tie.Need-has-requires-5 Inv-loop μ-loop
-has-requires-5 c κs = search needs
 
 returns-2 : tie.Need-returns-2 Inv-loop μ-loop
 returns-2 c = λ p t e.
@@ -97,12 +73,6 @@ returns-2 c = λ p t e.
     let target = told-decides p _ (g .0) _ (g .1) .sound (sym (c .before .has5 .ensures) ∙ c .if5 .taken) in
     permitting-at p _ _ _ _ (asked (l .before) p t) (v .before .before .before .before .before .before .before .loop-test .taken) (k .1)
     (permits-at p e _ _ _ _ ((v .before .before .before .before .before .if2 .taken, fit v .0 .0), (user, target)))
-
-add-i : tie.Need-add-i Inv-loop μ-loop
-add-i c = search needs
-
-loop-less : tie.Need-loop-less Inv-loop μ-loop
-loop-less c = search needs
 
 loop-again : tie.Need-loop-again Inv-loop μ-loop
 loop-again c =
@@ -144,21 +114,21 @@ permitting-spec =
     (tie.spec
     Inv-loop
     μ-loop
-    has-requires
-    has-requires-2
+    (λ c κs. search needs)
+    (λ c κs. search needs)
     returns
     loop-holds
-    cast-n
-    mul-rule
+    (λ c. search needs)
+    (λ c. search needs)
     array-copy-out-rule
-    cast-has
-    has-requires-3
+    (λ c. search needs)
+    (λ c κs. search needs)
     ask-requires
-    has-requires-4
+    (λ c κs. search needs)
     ask-requires-2
-    has-requires-5
+    (λ c κs. search needs)
     returns-2
-    add-i
-    loop-less
+    (λ c. search needs)
+    (λ c. search needs)
     loop-again
     returns-3)

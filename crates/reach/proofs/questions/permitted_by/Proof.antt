@@ -12,28 +12,13 @@ use Rattle.reach.proofs.questions.permitted_by.Tie as tie
 returns : tie.Need-returns
 returns c = λ p k. set-none (λ x h. true≢false (sym (h .0 .0) ∙ not-true _ (c .if1 .taken)))
 
-cast-has : tie.Need-cast-has
-cast-has c = search needs
-
-has-requires : tie.Need-has-requires
-has-requires c κs = search needs
-
 returns-2 : tie.Need-returns-2
 unfolding has
 returns-2 c = λ p k. set-none (λ x h. refuted (decides-eqb _ 1) (sym (c .before .has .ensures) ∙ not-true _ (c .if2 .taken)) (h .0 .1))
 
-search-requires : tie.Need-search-requires
-search-requires c κs = search needs
-
-has-requires-2 : tie.Need-has-requires-2
-has-requires-2 c κs = search needs
-
 returns-3 : tie.Need-returns-3
 returns-3 c = λ p k.
     set-none (λ x h. set-outside _ (c .before .has2 .ensures) (c .if3 .taken) (c .before .before .search .ensures p k) (h .1 .0))
-
-search-requires-2 : tie.Need-search-requires-2
-search-requires-2 c κs = search needs
 
 returns-4 : tie.Need-returns-4
 unfolding has
@@ -55,11 +40,11 @@ permitted-by-spec =
     tie.close
     (tie.spec
     returns
-    cast-has
-    has-requires
+    (λ c. search needs)
+    (λ c κs. search needs)
     returns-2
-    search-requires
-    has-requires-2
+    (λ c κs. search needs)
+    (λ c κs. search needs)
     returns-3
-    search-requires-2
+    (λ c κs. search needs)
     returns-4)

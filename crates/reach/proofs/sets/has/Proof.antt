@@ -5,9 +5,6 @@ use borrow.Author.Needs.{needs}
 use Rattle.reach.proofs.sets.has.Statement.{statement}
 use Rattle.reach.proofs.sets.has.Tie as tie
 
-shr-result : tie.Need-shr-result
-shr-result c = search needs
-
 returns : tie.Need-returns
 unfolding has
 returns c = rw low-bit
@@ -17,4 +14,4 @@ unfolding has
 returns-2 c = rw (bit-high 64 _ _ (c .before .fits .set .fits) (c .if1 .left))
 
 pub has-spec : {M : Type 1} → statement M
-has-spec = tie.close (tie.spec shr-result returns returns-2)
+has-spec = tie.close (tie.spec (λ c. search needs) returns returns-2)

@@ -5,14 +5,8 @@ use borrow.Author.Needs.{needs}
 use Rattle.reach.proofs.sets.joined.Statement.{statement}
 use Rattle.reach.proofs.sets.joined.Tie as tie
 
-mul-result : tie.Need-mul-result
-mul-result c = search needs
-
-add-result : tie.Need-add-result
-add-result c = search needs
-
 returns : tie.Need-returns
 returns c = set-joined (c .args .low) (c .args .high) (omega arith) (omega arith)
 
 pub joined-spec : {M : Type 1} → statement M
-joined-spec = tie.close (tie.spec mul-result add-result returns)
+joined-spec = tie.close (tie.spec (λ c. search needs) (λ c. search needs) returns)

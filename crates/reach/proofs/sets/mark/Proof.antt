@@ -6,12 +6,6 @@ use borrow.Author.Needs.{needs}
 use Rattle.reach.proofs.sets.mark.Statement.{statement}
 use Rattle.reach.proofs.sets.mark.Tie as tie
 
-cast-result : tie.Need-cast-result
-cast-result c = search needs
-
-shl-result : tie.Need-shl-result
-shl-result c = search needs
-
 returns : tie.Need-returns
 returns c = set-as (set-one-half _ (c .before .pre)) (λ x e. (e, c .if1 .taken)) (λ x w. w .0)
 
@@ -19,4 +13,4 @@ returns-2 : tie.Need-returns-2
 returns-2 c = set-none (λ x w. true≢false (sym (w .1) ∙ c .if1 .left))
 
 pub mark-spec : {M : Type 1} → statement M
-mark-spec = tie.close (tie.spec cast-result shl-result returns returns-2)
+mark-spec = tie.close (tie.spec (λ c. search needs) (λ c. search needs) returns returns-2)

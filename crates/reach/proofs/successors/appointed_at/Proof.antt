@@ -14,14 +14,5 @@ returns c =
     let long : length (a .t1) ≡ 32 = search (needs, length-mapped) in
     sym (set-out (a .t1) (a .i) _ (omega (arith, long, c .if1 .taken)))
 
-mul-appointments : tie.Need-mul-appointments
-mul-appointments c = search needs
-
-array-set-from-appointments : tie.Need-array-set-from-appointments
-array-set-from-appointments c = search needs
-
-returns-2 : tie.Need-returns-2
-returns-2 c = search needs
-
 pub appointed-at-spec : {M : Type 1} → statement M
-appointed-at-spec = tie.close (tie.spec returns mul-appointments array-set-from-appointments returns-2)
+appointed-at-spec = tie.close (tie.spec returns (λ c. search needs) (λ c. search needs) (λ c. search needs))

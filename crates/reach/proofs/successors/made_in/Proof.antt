@@ -34,27 +34,6 @@ returns-2 c = rw (lt-ltb _ _ (c .before .if1 .left), le-ltb _ _ (c .if2 .taken))
 loop-holds : tie.Need-loop-holds Inv-loop μ-loop
 loop-holds c = (search needs, refl)
 
-mul-members : tie.Need-mul-members Inv-loop μ-loop
-mul-members c = search needs
-
-array-read-members : tie.Need-array-read-members Inv-loop μ-loop
-array-read-members c = search needs
-
-shl-members : tie.Need-shl-members Inv-loop μ-loop
-shl-members c = search needs
-
-mul-members-2 : tie.Need-mul-members-2 Inv-loop μ-loop
-mul-members-2 c = search needs
-
-array-write-members : tie.Need-array-write-members Inv-loop μ-loop
-array-write-members c = search needs
-
-add-i : tie.Need-add-i Inv-loop μ-loop
-add-i c = search needs
-
-loop-less : tie.Need-loop-less Inv-loop μ-loop
-loop-less c = search needs
-
 loop-again : tie.Need-loop-again Inv-loop μ-loop
 loop-again c =
     let l = c .before in
@@ -63,27 +42,6 @@ loop-again c =
       ap (λ (s : List ℕ). set s (l .loop .i) (masked (a .x) (getD s (l .loop .i) 0))) (l .loop .inv .1)
           ∙ map-to-next (masked (a .x)) (l .loop .i) (a .t1),
     )
-
-mul-members-3 : tie.Need-mul-members-3 Inv-loop μ-loop
-mul-members-3 c = search needs
-
-array-write-members-2 : tie.Need-array-write-members-2 Inv-loop μ-loop
-array-write-members-2 c = search needs
-
-mul-members-4 : tie.Need-mul-members-4 Inv-loop μ-loop
-mul-members-4 c = search needs
-
-array-read-members-2 : tie.Need-array-read-members-2 Inv-loop μ-loop
-array-read-members-2 c = search needs
-
-shl-members-2 : tie.Need-shl-members-2 Inv-loop μ-loop
-shl-members-2 c = search needs
-
-mul-members-5 : tie.Need-mul-members-5 Inv-loop μ-loop
-mul-members-5 c = search needs
-
-array-write-members-3 : tie.Need-array-write-members-3 Inv-loop μ-loop
-array-write-members-3 c = search needs
 
 returns-3 : tie.Need-returns-3 Inv-loop μ-loop
 returns-3 c =
@@ -110,19 +68,19 @@ made-in-spec =
     returns
     returns-2
     loop-holds
-    mul-members
-    array-read-members
-    shl-members
-    mul-members-2
-    array-write-members
-    add-i
-    loop-less
+    (λ c. search needs)
+    (λ c. search needs)
+    (λ c. search needs)
+    (λ c. search needs)
+    (λ c. search needs)
+    (λ c. search needs)
+    (λ c. search needs)
     loop-again
-    mul-members-3
-    array-write-members-2
-    mul-members-4
-    array-read-members-2
-    shl-members-2
-    mul-members-5
-    array-write-members-3
+    (λ c. search needs)
+    (λ c. search needs)
+    (λ c. search needs)
+    (λ c. search needs)
+    (λ c. search needs)
+    (λ c. search needs)
+    (λ c. search needs)
     returns-3)

@@ -14,14 +14,5 @@ returns c =
     let long : length (a .t1) ≡ 64 = search (needs, length-mapped) in
     sym (set-out (a .t1) (a .i) _ (omega (arith, long, c .if1 .taken)))
 
-mul-rules : tie.Need-mul-rules
-mul-rules c = search needs
-
-array-set-from-rules : tie.Need-array-set-from-rules
-array-set-from-rules c = search needs
-
-returns-2 : tie.Need-returns-2
-returns-2 c = search needs
-
 pub ruled-at-spec : {M : Type 1} → statement M
-ruled-at-spec = tie.close (tie.spec returns mul-rules array-set-from-rules returns-2)
+ruled-at-spec = tie.close (tie.spec returns (λ c. search needs) (λ c. search needs) (λ c. search needs))

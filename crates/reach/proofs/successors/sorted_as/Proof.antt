@@ -10,11 +10,8 @@ returns c = rw (le-ltb _ _ (c .if1 .taken))
 returns-2 : tie.Need-returns-2
 returns-2 c = rw (lt-ltb _ _ (c .before .if1 .left), le-ltb _ _ (c .if2 .taken))
 
-array-write-sorts : tie.Need-array-write-sorts
-array-write-sorts c = search needs
-
 returns-3 : tie.Need-returns-3
 returns-3 c = rw (lt-ltb _ _ (c .before .if1 .left), lt-ltb _ _ (c .if2 .left))
 
 pub sorted-as-spec : {M : Type 1} → statement M
-sorted-as-spec = tie.close (tie.spec returns returns-2 array-write-sorts returns-3)
+sorted-as-spec = tie.close (tie.spec returns returns-2 (λ c. search needs) returns-3)

@@ -14,21 +14,6 @@ returns c = rw (le-ltb _ _ (c .if1 .taken))
 returns-2 : tie.Need-returns-2
 returns-2 c = rw (lt-ltb _ _ (c .before .if1 .left), le-ltb _ _ (c .if2 .taken))
 
-mul-members : tie.Need-mul-members
-mul-members c = search needs
-
-array-read-members : tie.Need-array-read-members
-array-read-members c = search needs
-
-shl-members : tie.Need-shl-members
-shl-members c = search needs
-
-mul-members-2 : tie.Need-mul-members-2
-mul-members-2 c = search needs
-
-array-write-members : tie.Need-array-write-members
-array-write-members c = search needs
-
 returns-3 : tie.Need-returns-3
 returns-3 c =
     let a = c .before .before .args in
@@ -41,9 +26,9 @@ taken-from-spec =
     (tie.spec
     returns
     returns-2
-    mul-members
-    array-read-members
-    shl-members
-    mul-members-2
-    array-write-members
+    (λ c. search needs)
+    (λ c. search needs)
+    (λ c. search needs)
+    (λ c. search needs)
+    (λ c. search needs)
     returns-3)

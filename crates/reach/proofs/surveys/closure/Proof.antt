@@ -58,15 +58,6 @@ near-high c =
 loop-holds : tie.Need-loop-holds Inv-loop2 μ-loop2 Inv-loop μ-loop
 loop-holds c = ((search needs, table-none refl), λ p k. ready-none)
 
-sub-n : tie.Need-sub-n Inv-loop2 μ-loop2 Inv-loop μ-loop
-sub-n c = search needs
-
-cast-found : tie.Need-cast-found Inv-loop2 μ-loop2 Inv-loop μ-loop
-cast-found c = search needs
-
-shl-found : tie.Need-shl-found Inv-loop2 μ-loop2 Inv-loop μ-loop
-shl-found c = search needs
-
 loop2-holds : tie.Need-loop2-holds Inv-loop2 μ-loop2 Inv-loop μ-loop
 loop2-holds c =
     let l = c .before .before .before in
@@ -161,24 +152,6 @@ loop2-again c =
           (c .before .before .if1 .came),
     )
 
-cast-g : tie.Need-cast-g Inv-loop2 μ-loop2 Inv-loop μ-loop
-cast-g c = search needs
-
-mul-rows : tie.Need-mul-rows Inv-loop2 μ-loop2 Inv-loop μ-loop
-mul-rows c = search needs
-
-array-write-rows : tie.Need-array-write-rows Inv-loop2 μ-loop2 Inv-loop μ-loop
-array-write-rows c = search needs
-
-cast-ready : tie.Need-cast-ready Inv-loop2 μ-loop2 Inv-loop μ-loop
-cast-ready c = search needs
-
-shl-ready : tie.Need-shl-ready Inv-loop2 μ-loop2 Inv-loop μ-loop
-shl-ready c = search needs
-
-loop-less : tie.Need-loop-less Inv-loop2 μ-loop2 Inv-loop μ-loop
-loop-less c = search needs
-
 loop-again : tie.Need-loop-again Inv-loop2 μ-loop2 Inv-loop μ-loop
 loop-again c =
     let l = c .before .before .before .before .before in
@@ -200,9 +173,9 @@ closure-spec =
     Inv-loop
     μ-loop
     loop-holds
-    sub-n
-    cast-found
-    shl-found
+    (λ c. search needs)
+    (λ c. search needs)
+    (λ c. search needs)
     loop2-holds
     cast-h
     cast-l
@@ -223,11 +196,11 @@ closure-spec =
     shl-done-3
     loop2-less
     loop2-again
-    cast-g
-    mul-rows
-    array-write-rows
-    cast-ready
-    shl-ready
-    loop-less
+    (λ c. search needs)
+    (λ c. search needs)
+    (λ c. search needs)
+    (λ c. search needs)
+    (λ c. search needs)
+    (λ c. search needs)
     loop-again
     returns)

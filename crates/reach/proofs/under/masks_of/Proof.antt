@@ -6,21 +6,6 @@ use borrow.Author.Needs.{needs}
 use Rattle.reach.proofs.under.masks_of.Statement.{statement}
 use Rattle.reach.proofs.under.masks_of.Tie as tie
 
-half-of-requires : tie.Need-half-of-requires
-half-of-requires c κs = search needs
-
-half-of-requires-2 : tie.Need-half-of-requires-2
-half-of-requires-2 c κs = search needs
-
-joined-requires : tie.Need-joined-requires
-joined-requires c κs = search needs
-
-joined-requires-2 : tie.Need-joined-requires-2
-joined-requires-2 c κs = search needs
-
-joined-requires-3 : tie.Need-joined-requires-3
-joined-requires-3 c κs = search needs
-
 returns : tie.Need-returns
 returns c = λ p e.
     let low = c .before .before .before .before .half-of .ensures in
@@ -38,4 +23,4 @@ returns c = λ p e.
 pub masks-of-spec : {M : Type 1} → statement M
 masks-of-spec =
     tie.close
-    (tie.spec half-of-requires half-of-requires-2 joined-requires joined-requires-2 joined-requires-3 returns)
+    (tie.spec (λ c κs. search needs) (λ c κs. search needs) (λ c κs. search needs) (λ c κs. search needs) (λ c κs. search needs) returns)

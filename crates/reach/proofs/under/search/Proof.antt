@@ -35,9 +35,6 @@ high c = highest-bit 64 _ (c .loop-test .taken) (c .before .loop .inv .0 .todo-w
 returns : tie.Need-returns Inv-loop μ-loop
 returns c = λ p k. set-none (λ x u. omega (arith, in-use-below _ _ (under-upper u), c .if1 .taken))
 
-shl-found : tie.Need-shl-found Inv-loop μ-loop
-shl-found c = search needs
-
 loop-holds : tie.Need-loop-holds Inv-loop μ-loop
 loop-holds c =
     let a = c .before .before .before .args in (
@@ -103,7 +100,7 @@ search-spec =
     Inv-loop
     μ-loop
     returns
-    shl-found
+    (λ c. search needs)
     loop-holds
     cast-h
     cast-l

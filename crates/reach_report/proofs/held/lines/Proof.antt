@@ -13,18 +13,6 @@ abbrev μ-loop : tie.MeasureT-loop
 loop-holds : tie.Need-loop-holds Inv-loop μ-loop
 loop-holds c = tt
 
-owns-line-requires : tie.Need-owns-line-requires Inv-loop μ-loop
-owns-line-requires c κs = search needs
-
-manages-line-requires : tie.Need-manages-line-requires Inv-loop μ-loop
-manages-line-requires c κs = search needs
-
-add-u : tie.Need-add-u Inv-loop μ-loop
-add-u c = search needs
-
-loop-less : tie.Need-loop-less Inv-loop μ-loop
-loop-less c = search needs
-
 loop-again : tie.Need-loop-again Inv-loop μ-loop
 loop-again c = tt
 
@@ -38,9 +26,9 @@ lines-spec =
     Inv-loop
     μ-loop
     loop-holds
-    owns-line-requires
-    manages-line-requires
-    add-u
-    loop-less
+    (λ c κs. search needs)
+    (λ c κs. search needs)
+    (λ c. search needs)
+    (λ c. search needs)
     loop-again
     returns)

@@ -5,9 +5,6 @@ use borrow.Author.Needs.{needs}
 use Rattle.reach_report.proofs.orphans.orphans.Statement.{statement}
 use Rattle.reach_report.proofs.orphans.orphans.Tie as tie
 
-masks-requires : tie.Need-masks-requires
-masks-requires c κs = search needs
-
 returns : tie.Need-returns
 returns c =
     let objects = c .before .masks .ensures .objects in
@@ -21,4 +18,4 @@ returns c =
     (λ x o. (objects .all x (o .object), (set-below objects x (o .object), λ s. o .nobody (s .place) (s .at))))
 
 pub orphans-spec : {M : Type 1} → statement M
-orphans-spec = tie.close (tie.spec masks-requires returns)
+orphans-spec = tie.close (tie.spec (λ c κs. search needs) returns)

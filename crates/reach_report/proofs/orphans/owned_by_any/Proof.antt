@@ -17,15 +17,6 @@ abbrev μ-loop : tie.MeasureT-loop
 loop-holds : tie.Need-loop-holds Inv-loop μ-loop
 loop-holds c = (search needs, union-none _)
 
-owned-requires : tie.Need-owned-requires Inv-loop μ-loop
-owned-requires c κs = search needs
-
-add-u : tie.Need-add-u Inv-loop μ-loop
-add-u c = search needs
-
-loop-less : tie.Need-loop-less Inv-loop μ-loop
-loop-less c = search needs
-
 loop-again : tie.Need-loop-again Inv-loop μ-loop
 loop-again c = (search needs, union-add _ (c .before .before .loop .inv .1) (c .owned .ensures))
 
@@ -35,4 +26,4 @@ returns c = union-end _ 64 (c .before .loop .inv .1) (omega (arith, c .loop-test
 pub owned-by-any-spec : {M : Type 1} → statement M
 owned-by-any-spec =
     tie.close
-    (tie.spec Inv-loop μ-loop loop-holds owned-requires add-u loop-less loop-again returns)
+    (tie.spec Inv-loop μ-loop loop-holds (λ c κs. search needs) (λ c. search needs) (λ c. search needs) loop-again returns)

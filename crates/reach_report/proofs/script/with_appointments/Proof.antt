@@ -3,24 +3,6 @@ use borrow.Author.Needs.{needs}
 use Rattle.reach_report.proofs.script.with_appointments.Statement.{statement}
 use Rattle.reach_report.proofs.script.with_appointments.Tie as tie
 
-appoint-requires : tie.Need-appoint-requires
-appoint-requires c κs = search needs
-
-appoint-requires-2 : tie.Need-appoint-requires-2
-appoint-requires-2 c κs = search needs
-
-appoint-requires-3 : tie.Need-appoint-requires-3
-appoint-requires-3 c κs = search needs
-
-appoint-requires-4 : tie.Need-appoint-requires-4
-appoint-requires-4 c κs = search needs
-
-appoint-requires-5 : tie.Need-appoint-requires-5
-appoint-requires-5 c κs = search needs
-
-appoint-requires-6 : tie.Need-appoint-requires-6
-appoint-requires-6 c κs = search needs
-
 returns : tie.Need-returns
 returns c =
     rw (
@@ -36,10 +18,10 @@ pub with-appointments-spec : {M : Type 1} → statement M
 with-appointments-spec =
     tie.close
     (tie.spec
-    appoint-requires
-    appoint-requires-2
-    appoint-requires-3
-    appoint-requires-4
-    appoint-requires-5
-    appoint-requires-6
+    (λ c κs. search needs)
+    (λ c κs. search needs)
+    (λ c κs. search needs)
+    (λ c κs. search needs)
+    (λ c κs. search needs)
+    (λ c κs. search needs)
     returns)

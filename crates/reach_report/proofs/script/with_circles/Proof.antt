@@ -3,18 +3,6 @@ use borrow.Author.Needs.{needs}
 use Rattle.reach_report.proofs.script.with_circles.Statement.{statement}
 use Rattle.reach_report.proofs.script.with_circles.Tie as tie
 
-put-requires : tie.Need-put-requires
-put-requires c κs = search needs
-
-put-requires-2 : tie.Need-put-requires-2
-put-requires-2 c κs = search needs
-
-put-requires-3 : tie.Need-put-requires-3
-put-requires-3 c κs = search needs
-
-put-requires-4 : tie.Need-put-requires-4
-put-requires-4 c κs = search needs
-
 returns : tie.Need-returns
 returns c =
     rw (
@@ -26,4 +14,4 @@ returns c =
 
 pub with-circles-spec : {M : Type 1} → statement M
 with-circles-spec =
-    tie.close (tie.spec put-requires put-requires-2 put-requires-3 put-requires-4 returns)
+    tie.close (tie.spec (λ c κs. search needs) (λ c κs. search needs) (λ c κs. search needs) (λ c κs. search needs) returns)

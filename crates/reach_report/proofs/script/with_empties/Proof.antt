@@ -3,24 +3,6 @@ use borrow.Author.Needs.{needs}
 use Rattle.reach_report.proofs.script.with_empties.Statement.{statement}
 use Rattle.reach_report.proofs.script.with_empties.Tie as tie
 
-taken-requires : tie.Need-taken-requires
-taken-requires c κs = search needs
-
-made-requires : tie.Need-made-requires
-made-requires c κs = search needs
-
-made-requires-2 : tie.Need-made-requires-2
-made-requires-2 c κs = search needs
-
-put-requires : tie.Need-put-requires
-put-requires c κs = search needs
-
-dismissed-requires : tie.Need-dismissed-requires
-dismissed-requires c κs = search needs
-
-withdrawn-requires : tie.Need-withdrawn-requires
-withdrawn-requires c κs = search needs
-
 returns : tie.Need-returns
 returns c =
     rw (
@@ -36,10 +18,10 @@ pub with-empties-spec : {M : Type 1} → statement M
 with-empties-spec =
     tie.close
     (tie.spec
-    taken-requires
-    made-requires
-    made-requires-2
-    put-requires
-    dismissed-requires
-    withdrawn-requires
+    (λ c κs. search needs)
+    (λ c κs. search needs)
+    (λ c κs. search needs)
+    (λ c κs. search needs)
+    (λ c κs. search needs)
+    (λ c κs. search needs)
     returns)

@@ -3,21 +3,6 @@ use borrow.Author.Needs.{needs}
 use Rattle.reach_report.proofs.script.with_rules.Statement.{statement}
 use Rattle.reach_report.proofs.script.with_rules.Tie as tie
 
-granted-requires : tie.Need-granted-requires
-granted-requires c κs = search needs
-
-granted-requires-2 : tie.Need-granted-requires-2
-granted-requires-2 c κs = search needs
-
-granted-requires-3 : tie.Need-granted-requires-3
-granted-requires-3 c κs = search needs
-
-granted-requires-4 : tie.Need-granted-requires-4
-granted-requires-4 c κs = search needs
-
-granted-requires-5 : tie.Need-granted-requires-5
-granted-requires-5 c κs = search needs
-
 returns : tie.Need-returns
 returns c =
     rw (
@@ -32,9 +17,9 @@ pub with-rules-spec : {M : Type 1} → statement M
 with-rules-spec =
     tie.close
     (tie.spec
-    granted-requires
-    granted-requires-2
-    granted-requires-3
-    granted-requires-4
-    granted-requires-5
+    (λ c κs. search needs)
+    (λ c κs. search needs)
+    (λ c κs. search needs)
+    (λ c κs. search needs)
+    (λ c κs. search needs)
     returns)

@@ -10,47 +10,11 @@ Inv-loop p g set x₀ t6 x = Unit {0}
 abbrev μ-loop : tie.MeasureT-loop
 μ-loop p g set x₀ t6 x = 64 - x
 
-slice-aggregate-head : tie.Need-slice-aggregate-head Inv-loop μ-loop
-slice-aggregate-head c = search needs
-
-head-requires : tie.Need-head-requires Inv-loop μ-loop
-head-requires c κs = search needs
-
-row-requires : tie.Need-row-requires Inv-loop μ-loop
-row-requires c κs = search needs
-
-under-set-requires : tie.Need-under-set-requires Inv-loop μ-loop
-under-set-requires c κs = search needs
-
-doubt-requires : tie.Need-doubt-requires Inv-loop μ-loop
-doubt-requires c κs = search needs
-
 loop-holds : tie.Need-loop-holds Inv-loop μ-loop
 loop-holds c = tt
 
-under-requires : tie.Need-under-requires Inv-loop μ-loop
-under-requires c κs = search needs
-
-direct-requires : tie.Need-direct-requires Inv-loop μ-loop
-direct-requires c κs = search needs
-
-item-requires : tie.Need-item-requires Inv-loop μ-loop
-item-requires c κs = search needs
-
-add-x : tie.Need-add-x Inv-loop μ-loop
-add-x c = search needs
-
-loop-less : tie.Need-loop-less Inv-loop μ-loop
-loop-less c = search needs
-
 loop-again : tie.Need-loop-again Inv-loop μ-loop
 loop-again c = tt
-
-slice-aggregate-words : tie.Need-slice-aggregate-words Inv-loop μ-loop
-slice-aggregate-words c = search needs
-
-words-requires : tie.Need-words-requires Inv-loop μ-loop
-words-requires c κs = search needs
 
 returns : tie.Need-returns Inv-loop μ-loop
 returns c = tt
@@ -61,18 +25,18 @@ line-spec =
     (tie.spec
     Inv-loop
     μ-loop
-    slice-aggregate-head
-    head-requires
-    row-requires
-    under-set-requires
-    doubt-requires
+    (λ c. search needs)
+    (λ c κs. search needs)
+    (λ c κs. search needs)
+    (λ c κs. search needs)
+    (λ c κs. search needs)
     loop-holds
-    under-requires
-    direct-requires
-    item-requires
-    add-x
-    loop-less
+    (λ c κs. search needs)
+    (λ c κs. search needs)
+    (λ c κs. search needs)
+    (λ c. search needs)
+    (λ c. search needs)
     loop-again
-    slice-aggregate-words
-    words-requires
+    (λ c. search needs)
+    (λ c κs. search needs)
     returns)

@@ -13,23 +13,8 @@ abbrev μ-loop : tie.MeasureT-loop
 loop-holds : tie.Need-loop-holds Inv-loop μ-loop
 loop-holds c = tt
 
-line-requires : tie.Need-line-requires Inv-loop μ-loop
-line-requires c κs = search needs
-
-add-g : tie.Need-add-g Inv-loop μ-loop
-add-g c = search needs
-
-loop-less : tie.Need-loop-less Inv-loop μ-loop
-loop-less c = search needs
-
 loop-again : tie.Need-loop-again Inv-loop μ-loop
 loop-again c = tt
-
-line-requires-2 : tie.Need-line-requires-2 Inv-loop μ-loop
-line-requires-2 c κs = search needs
-
-line-requires-3 : tie.Need-line-requires-3 Inv-loop μ-loop
-line-requires-3 c κs = search needs
 
 returns : tie.Need-returns Inv-loop μ-loop
 returns c = tt
@@ -41,10 +26,10 @@ lines-spec =
     Inv-loop
     μ-loop
     loop-holds
-    line-requires
-    add-g
-    loop-less
+    (λ c κs. search needs)
+    (λ c. search needs)
+    (λ c. search needs)
     loop-again
-    line-requires-2
-    line-requires-3
+    (λ c κs. search needs)
+    (λ c κs. search needs)
     returns)

@@ -37,18 +37,12 @@ zeros-for p (Grant i u t o) l e z = z
 zeros-for p (Withdraw i) l e z = z
 zeros-for p (Use x k) l e z = z
 
-is-put-requires : tie.Need-is-put-requires
-is-put-requires c κs = search needs
-
 returns : tie.Need-returns
 returns c p l = zeros-for p _ _ (sym (c .before .is-put .ensures) ∙ not-true _ (c .if1 .taken)) refl
-
-closure-requires : tie.Need-closure-requires
-closure-requires c κs = search needs
 
 returns-2 : tie.Need-returns-2
 returns-2 c p l =
     closure-for p _ _ (sym (c .before .before .is-put .ensures) ∙ not-false _ (c .before .if1 .left)) (c .closure .ensures p l)
 
 pub rows-for-spec : {M : Type 1} → statement M
-rows-for-spec = tie.close (tie.spec is-put-requires returns closure-requires returns-2)
+rows-for-spec = tie.close (tie.spec (λ c κs. search needs) returns (λ c κs. search needs) returns-2)
