@@ -22,7 +22,6 @@ use Rattle.rules.specs.Doing.{after}
 use Rattle.rules.specs.Refusals.{torn, unknown, misfit, stranger, offTheSheet, absent, wrongSort, alreadySo, noAuthority, ownGain}
 use Rattle.rules.specs.Refusals.{handOver, orphan}
 use Rattle.rules.specs.Judging.{codeOf, done, verdictOn, verdict, accepted, judge}
-use Rattle.rules.proofs.Table.{done-accepted}
 use Rattle.judge.specs.Answering.{answered}
 
 abbrev tests : Policy → List ℕ → ℕ → Request → List Bool

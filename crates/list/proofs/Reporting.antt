@@ -1,20 +1,19 @@
 -- What the loop of `report_from` keeps: the lines so far stand in the buffer, and those to come are of the answers from the current policy and
 -- position on. Each record moves one answer over; a torn place is the last; at the end none is to come.
-use mathlib.Core.Path.{_≡_, refl, sym, ap, ap₂, subst, _∙_}
+use mathlib.Core.Path.{_≡_, refl, sym, ap, subst, _∙_}
 use mathlib.Core.List.{List, [], _∷_, _++_, append-assoc, append-nil}
-use Prim.Native.Nat.{ℕ, suc, _+_, _-_, _≤_, _<_, zero-le}
+use Prim.Native.Nat.{ℕ, _+_, _-_, _≤_, _<_, zero-le}
 use native.Mathlib.Omega.{arith}
 use lib.ListN.{length, take, drop, length-append}
 use borrow.Author.Tests.{lt-ltb, le-ltb}
 use Rattle.reach.specs.declared.Policy.{Policy}
-use Rattle.reach.specs.Tests.{_⇒_∥_}
 use Rattle.reach.specs.Tables.{initial}
 use Rattle.frame.specs.declared.Step.the-variants.{Record, Torn, End}
-use Rattle.frame.specs.Reading.{stepAt, recordBytes, recordsFrom, tornFrom}
-use Rattle.frame.proofs.Steps.{Found, step-record, step-torn}
+use Rattle.frame.specs.Reading.{stepAt, recordBytes, recordsFrom}
+use Rattle.frame.proofs.Steps.{Found, step-record}
 use Rattle.frame.proofs.Records.{records-of-record, torn-of-record, records-of-torn, torn-of-torn, records-of-end, torn-of-end}
 use Rattle.rules.specs.declared.Answer.{Answer}
-use Rattle.rules.specs.Judging.{codeOf, citedOf, judge, numbersOf, answers}
+use Rattle.rules.specs.Judging.{codeOf, citedOf, judge, numbersOf}
 use Rattle.rules.proofs.Table.{answers-none, answers-next}
 use Rattle.text.specs.Text.{Bytes, line, lines, tornPlace, Wrote, Printed}
 use Rattle.list.specs.declared.Reported.{Reported}

@@ -1,12 +1,12 @@
 -- 212,992 bytes are enough for what an input of 65,536 bytes prints. Its records take 4 bytes or more, so it has at most 16,384
 -- lines; a line takes at most 13: five digits of an index below 100,000, two of a code, three of a cited byte, two spaces, a line feed.
-use mathlib.Core.Path.{_≡_, refl, ap}
+use mathlib.Core.Path.{_≡_, refl}
 use mathlib.Core.Bool.{Bool, true, false, cond}
 use mathlib.Core.List.{List, [], _∷_, _++_, append-nil}
-use Prim.Native.Nat.{ℕ, suc, _+_, _*_, _≤_, _<_, zero-le}
+use Prim.Native.Nat.{ℕ, _+_, _*_, _≤_, zero-le}
 use native.Mathlib.Omega.{arith}
 use lib.Dec.{ltb}
-use lib.ListN.{length, take, length-append}
+use lib.ListN.{length, take}
 use borrow.Author.Tests.{ltb-false}
 use Rattle.reach.specs.declared.Policy.{Policy}
 use Rattle.reach.specs.Tests.{_⇒_∥_}
@@ -17,9 +17,9 @@ use Rattle.rules.specs.declared.Verdict.the-variants.{Torn}
 use Rattle.rules.specs.Judging.{codeOf, citedOf, judge, numbersOf, answers}
 use Rattle.rules.proofs.Table.{answers-none, answers-next}
 use Rattle.rules.proofs.Bounded.{code-bounded, cited-bounded}
-use Rattle.text.specs.Text.{Bytes, line, lines, tornPlace, Printed}
+use Rattle.text.specs.Text.{Bytes, lines, tornPlace, Printed}
 use Rattle.list.specs.Report.{answersFrom, report, tooLong, output}
-use Rattle.text.proofs.Lengths.{Bounded, bounded-torn, lines-fit, torn-lines-fit}
+use Rattle.text.proofs.Lengths.{Bounded, lines-fit, torn-lines-fit}
 use Rattle.text.proofs.Writing.{printed-all}
 
 -- The numbers of a torn place are those of the verdict torn.

@@ -8,10 +8,9 @@ use native.Mathlib.Numerals.{add-one}
 use native.Mathlib.Omega.{arith}
 use lib.Dec.{leb}
 use lib.ListN.{length, drop, set, getD, length-append, length-map, length-drop, drop-of-length-le}
-use lib.Seq.{drop-cons, set-append-seam, append-snoc}
+use lib.Seq.{drop-cons, set-append-seam}
 use borrow.Author.Tests.{le-leb, lt-leb}
 use Rattle.reach.specs.declared.Policy.{Policy}
-use Rattle.reach.specs.Tests.{_⇒_∥_}
 use Rattle.rules.specs.declared.Answer.{Answer}
 use Rattle.rules.specs.Judging.{codeOf, citedOf, judge, answers}
 use Rattle.rules.proofs.Table.{answers-none, answers-next}

@@ -1,8 +1,7 @@
 -- Document 01's sample from the bytes that the program reads to the bytes that it prints; and the lines after it; and a torn place behind
 -- it. By computation, of the rules themselves.
 use mathlib.Core.Path.{_≡_, refl}
-use mathlib.Core.List.{List, [], _∷_, _++_}
-use Prim.Native.Nat.{ℕ}
+use mathlib.Core.List.{[], _∷_, _++_}
 use Rattle.frame.specs.Reading.{stepAt, recordsWithin, tornWithin, recordsFrom, tornFrom}
 use Rattle.rules.specs.Sample.{records, further}
 use Rattle.rules.proofs.Answered.{computed}

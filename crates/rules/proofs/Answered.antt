@@ -1,7 +1,7 @@
 -- Document 01's sample, of the rules themselves: judged from the founding, the sixteen records give the sixteen lines; so do those after
 -- them, and the records that walk through the traps. By computation.
 use mathlib.Core.Path.{_≡_, refl}
-use mathlib.Core.List.{List, [], _∷_, _++_, map}
+use mathlib.Core.List.{List, _++_, map}
 use Prim.Native.Nat.{ℕ}
 use Rattle.reach.specs.declared.Policy.{Policy}
 use Rattle.reach.specs.Words.{bit, has}

@@ -11,7 +11,7 @@ use Rattle.frame.specs.Fields.{lengthField, kindField}
 use Rattle.reach.specs.declared.Policy.{Policy}
 use Rattle.reach.specs.declared.Appointment.{Appointment}
 use Rattle.reach.specs.Tests.{_⇒_∥_, Decides}
-use Rattle.reach.specs.Tables.{sort, stored, appointment, standing, rule, view}
+use Rattle.reach.specs.Tables.{sort, stored, appointment, rule, view}
 use Rattle.reach.specs.Reach.{InUse, Group, User, Direct, isGroup}
 use Rattle.reach.specs.Privileges.{owner, manager, administrator, Owns, Manages, owns, manages}
 use Rattle.reach.proofs.Testing.{decides-as, decides-and, decides-or, decides-eqb, decides-ltb, decides-true, refuted, fails}

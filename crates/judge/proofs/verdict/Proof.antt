@@ -1,6 +1,6 @@
 -- The checks in their order, of every policy with the tables that are lent. `fact-n` is what check n answers, as the rules have it;
 -- `passed-n` that the first n do not apply; so each refusal is that of the first check that applies, and what passes all twelve is done.
-use mathlib.Core.Path.{_≡_, refl, sym, ap, _∙_}
+use mathlib.Core.Path.{_≡_, sym, ap, _∙_}
 use native.Mathlib.Omega.{arith}
 use denote.Ref.{now}
 use Rattle.reach.specs.declared.Policy.{Policy}

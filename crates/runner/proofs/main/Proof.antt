@@ -8,11 +8,6 @@ use Rattle.list.specs.Report.{output}
 use borrow.Author.Needs.{needs}
 use Rattle.runner.proofs.main.Statement.{statement}
 use Rattle.runner.proofs.main.Tie as tie
-use Rattle.runner.proofs.main.Reads as reads
-use Rattle.runner.proofs.main.Lts as lts
-use Rattle.io.proofs.read_full.Reads as read-full-reads
-use Rattle.io.proofs.write_all.Reads as write-all-reads
-use Rattle.runner.proofs.answer.Reads as answer-reads
 
 within : (input text : Bytes) (n : ℕ) → n ≡ length (output input) → take n text ≡ output input → n ≤ length text
 within input text n e same =

@@ -1,5 +1,5 @@
 -- Both are asked of the one set of what he governs.
-use mathlib.Core.Path.{_≡_, ap₂, _∙_}
+use mathlib.Core.Path.{ap₂, _∙_}
 use mathlib.Core.Bool.{_&&_}
 use Rattle.checks.proofs.Governing.{governed-is}
 use borrow.Author.Needs.{needs}

@@ -1,5 +1,5 @@
 -- Check 12, kind by kind: TAKE and DISMISS are asked of the policy after.
-use mathlib.Core.Path.{_≡_, _∙_}
+use mathlib.Core.Path.{_∙_}
 use Rattle.rules.specs.Doing.{after}
 use Rattle.rules.specs.Refusals.{orphan}
 use Rattle.checks.proofs.Leaving.{lent-taken, appointments-taken, orphan-taken}

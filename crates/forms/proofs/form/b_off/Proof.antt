@@ -1,6 +1,5 @@
 -- `b_off` is its definition: the two branches are its two cases.
 use borrow.Author.Tests.{eq-eqb, ne-eqb}
-use borrow.Author.Needs.{needs}
 use Rattle.forms.proofs.form.b_off.Statement.{statement}
 use Rattle.forms.proofs.form.b_off.Tie as tie
 

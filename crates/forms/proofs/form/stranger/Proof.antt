@@ -1,5 +1,5 @@
 -- Check 4, by the masks.
-use mathlib.Core.Path.{_≡_, ap, _∙_}
+use mathlib.Core.Path.{ap, _∙_}
 use mathlib.Core.Bool.{not}
 use Rattle.forms.proofs.Masking.{stranger-is}
 use borrow.Author.Needs.{needs}

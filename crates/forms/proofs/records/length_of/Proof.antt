@@ -1,7 +1,6 @@
 -- The length of each kind is its definition, arm by arm; the last arm is every other number.
 use borrow.Author.Tests.{ne-eqb}
 use Rattle.rules.specs.Records.{lengthOf}
-use borrow.Author.Needs.{needs}
 use Rattle.forms.proofs.records.length_of.Statement.{statement}
 use Rattle.forms.proofs.records.length_of.Tie as tie
 

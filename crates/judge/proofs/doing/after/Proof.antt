@@ -1,5 +1,5 @@
 -- `after` carries the request out: each arm is the successor that the rules name for that kind.
-use mathlib.Core.Path.{_≡_, sym, ap, _∙_}
+use mathlib.Core.Path.{sym, ap, _∙_}
 use Rattle.rules.specs.Doing.{after}
 use borrow.Author.Needs.{needs}
 use Rattle.judge.proofs.doing.after.Statement.{statement}

@@ -1,5 +1,5 @@
 -- The verdict is that of the place.
-use mathlib.Core.Path.{_≡_, sym, ap}
+use mathlib.Core.Path.{sym, ap}
 use Rattle.rules.specs.Judging.{doneBy}
 use borrow.Author.Needs.{needs}
 use Rattle.judge.proofs.doing.done.Statement.{statement}

@@ -6,9 +6,6 @@ use Rattle.list.proofs.Handed.{part-within, part-past, part-falling}
 use borrow.Author.Needs.{needs}
 use Rattle.list.proofs.run.judge_part.Statement.{statement}
 use Rattle.list.proofs.run.judge_part.Tie as tie
-use Rattle.list.proofs.run.judge_part.Reads as reads
-use Rattle.list.proofs.run.judge_part.Lts as lts
-use Rattle.judge.proofs.judge.Reads as judge-reads
 
 returns : tie.Need-returns
 returns c =

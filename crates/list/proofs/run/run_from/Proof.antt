@@ -8,11 +8,6 @@ use Rattle.list.proofs.Running.{too-few-cited}
 use borrow.Author.Needs.{needs}
 use Rattle.list.proofs.run.run_from.Statement.{statement}
 use Rattle.list.proofs.run.run_from.Tie as tie
-use Rattle.list.proofs.run.run_from.Reads as reads
-use Rattle.list.proofs.run.run_from.Lts as lts
-use Rattle.judge.proofs.cited_of.Reads as cited-of-reads
-use Rattle.judge.proofs.code_of.Reads as code-of-reads
-use Rattle.list.proofs.run.judge_part.Reads as judge-part-reads
 
 abbrev Inv-loop : tie.InvT-loop
 Inv-loop bytes ends codes₀ cited₀ current₀ start₀ i₀ codes cited current start i =
