@@ -22,11 +22,9 @@ module _ {p : Policy} {q n : Request} {w : Appointment} {r : AccessRule} (e : q 
 -- DISMISS and WITHDRAW name a place by its number.
 module _ {p : Policy} {q : Request} {w : Appointment} {r : AccessRule} {i : ℕ} where
   pub named-by-dismiss : q ≡ Dismiss i → Named p q w r → w ≡ appointment p i
-  unfolding placeOf
   named-by-dismiss e f = named-appointment e f
 
   pub named-by-withdraw : q ≡ Withdraw i → Named p q w r → r ≡ rule p i
-  unfolding placeOf
   named-by-withdraw e f = named-rule e f
 
 -- What the code reads at that place, from tables that are the policy's.

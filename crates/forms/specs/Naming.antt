@@ -9,7 +9,7 @@ use Rattle.rules.specs.declared.Request.{Request}
 use Rattle.rules.specs.declared.Request.the-variants.{Make, Put, Take, Appoint, Dismiss, Grant, Withdraw, Use}
 
 -- The place in the table of appointments or of rules that a request names; 0 for those that name none there.
-unfoldable pub placeOf : Request → ℕ
+abbrev pub placeOf : Request → ℕ
 placeOf (Make i s g) = 0
 placeOf (Put x g) = 0
 placeOf (Take x g) = 0

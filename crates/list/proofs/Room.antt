@@ -14,7 +14,7 @@ use Rattle.reach.specs.Tables.{initial}
 use Rattle.frame.specs.Reading.{recordsFrom, tornFrom}
 use Rattle.frame.proofs.Records.{records-few}
 use Rattle.rules.specs.declared.Verdict.the-variants.{Torn}
-use Rattle.rules.specs.Judging.{codeOf, citedOf, judge, numbersOf, answers}
+use Rattle.rules.specs.Judging.{judge, numbersOf, answers}
 use Rattle.rules.proofs.Table.{answers-none, answers-next}
 use Rattle.rules.proofs.Bounded.{code-bounded, cited-bounded}
 use Rattle.text.specs.Text.{Bytes, lines, tornPlace, Printed}
@@ -24,7 +24,6 @@ use Rattle.text.proofs.Writing.{printed-all}
 
 -- The numbers of a torn place are those of the verdict torn.
 pub torn-numbers : tornPlace ≡ numbersOf Torn
-unfolding codeOf citedOf
 torn-numbers = refl
 
 -- The answers of a list are bounded, and as many as its records.

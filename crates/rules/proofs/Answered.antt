@@ -16,7 +16,7 @@ use Rattle.rules.specs.Doing.{after}
 use Rattle.rules.specs.Gains.{gives, handsOver}
 use Rattle.rules.specs.Refusals.{torn, unknown, misfit, stranger, offTheSheet, absent, wrongSort, alreadySo, noAuthority, ownGain}
 use Rattle.rules.specs.Refusals.{handOver, orphan}
-use Rattle.rules.specs.Judging.{codeOf, citedOf, done, verdictOn, verdict, judge, answers}
+use Rattle.rules.specs.Judging.{done, verdictOn, verdict, judge, answers}
 use Rattle.rules.specs.Sample.{records, expected, further, furtherExpected}
 use Rattle.rules.specs.Trials.{recordOf, answerOf, traps, rows}
 
@@ -25,7 +25,7 @@ unfoldable pub computed : Policy → List (List ℕ) → List (ℕ × ℕ)
 unfolding bit has some lowestOr counted sort stored appointment standing rule inUse direct chain under holdsBy holds
     administersBy administers permitsBy askable permitted permitting orphaned withBit withoutBit made put taken appointed ruled
     initial lengthOf request mayAppoint may after gives handsOver torn unknown misfit stranger offTheSheet absent wrongSort
-    alreadySo noAuthority ownGain handOver orphan codeOf citedOf done verdictOn verdict judge answers
+    alreadySo noAuthority ownGain handOver orphan done verdictOn verdict judge answers
 computed p bs = answers p bs
 
 -- [01:runner.13] [01:runner.14] The sixteen lines of the sample.

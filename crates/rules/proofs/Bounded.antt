@@ -23,7 +23,6 @@ use Rattle.rules.proofs.Verdicts.{accepted-code, refused-code}
 
 -- Every code is one of document 01's.
 pub code-bounded : (v : Verdict) → codeOf v ≤ 12
-unfolding codeOf
 code-bounded Done = omega arith
 code-bounded (DoneBy i) = omega arith
 code-bounded Torn = omega arith
@@ -41,7 +40,6 @@ code-bounded Orphan = omega arith
 
 -- A refusal cites 255.
 pub refused-cites : (v : Verdict) → (codeOf v ≡ 0 → ⊥) → citedOf v ≡ 255
-unfolding codeOf citedOf
 refused-cites Done n = refl
 refused-cites (DoneBy i) n = absurd (n refl)
 refused-cites Torn n = refl
@@ -59,7 +57,7 @@ refused-cites Orphan n = refl
 
 -- What an accepted request cites is a place of the table, or 255.
 done-cited-bounded : (p : Policy) (u : ℕ) (q : Request) → citedOf (done p u q) ≤ 255
-unfolding done citedOf
+unfolding done
 done-cited-bounded p u (Make i s g) = omega arith
 done-cited-bounded p u (Put x g) = omega arith
 done-cited-bounded p u (Take x g) = omega arith

@@ -43,7 +43,7 @@ row false r v e d = record { sound = λ a. (refl, d .sound a); complete = λ w. 
 
 -- What has passed the table is accepted.
 pub done-accepted : (p : Policy) (u : ℕ) (q : Request) → accepted (done p u q) ≡ true
-unfolding done codeOf
+unfolding done
 done-accepted p u (Make i s g) = refl
 done-accepted p u (Put x g) = refl
 done-accepted p u (Take x g) = refl
@@ -58,7 +58,7 @@ done-accepted p u (Use x k) = go (permitting p u k x)
     go Nothing = refl
 
 decides-on : (p : Policy) (b : List ℕ) (u : ℕ) (q : Request) → Decides (accepted (verdictOn p b u q)) (Passed p b u q)
-unfolding verdictOn codeOf
+unfolding verdictOn
 decides-on p b u q =
     decides-as
     (row (torn b) _ _ refl

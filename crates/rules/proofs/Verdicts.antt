@@ -40,7 +40,7 @@ refusalOf n =
     Orphan
 
 refusal-of-code : (v : Verdict) → (codeOf v ≡ 0 → ⊥) → refusalOf (codeOf v) ≡ v
-unfolding refusalOf codeOf
+unfolding refusalOf
 refusal-of-code Done n = absurd (n refl)
 refusal-of-code (DoneBy i) n = absurd (n refl)
 refusal-of-code Torn n = refl

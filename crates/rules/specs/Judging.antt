@@ -21,7 +21,7 @@ use Rattle.rules.specs.Refusals.{torn, unknown, misfit, stranger, offThe
 use Rattle.rules.specs.Refusals.{handOver, orphan}
 
 -- Document 01's number for each verdict: 0 done, else the refusal's number in the table.
-unfoldable pub codeOf : Verdict → ℕ
+abbrev pub codeOf : Verdict → ℕ
 codeOf Done = 0
 codeOf (DoneBy i) = 0
 codeOf Torn = 1
@@ -38,7 +38,7 @@ codeOf HandOver = 11
 codeOf Orphan = 12
 
 -- [01:records.11] ".. and a cited rule: for an accepted USE the lowest permitting place, otherwise 255."
-unfoldable pub citedOf : Verdict → ℕ
+abbrev pub citedOf : Verdict → ℕ
 citedOf Done = 255
 citedOf (DoneBy i) = i
 citedOf Torn = 255

@@ -1,6 +1,5 @@
 -- Check 6, kind by kind: the masks say what is in use, and what stands at the place named is given.
 use Rattle.rules.specs.Refusals.{absent}
-use Rattle.forms.specs.Naming.{placeOf}
 use Rattle.forms.proofs.Masking.{in-use-is}
 use Rattle.forms.proofs.Naming.{named-appointment, named-rule}
 use borrow.Author.Needs.{needs}
@@ -35,7 +34,7 @@ returns-4 c =
     )
 
 returns-5 : tie.Need-returns-5
-unfolding absent placeOf
+unfolding absent
 returns-5 c = λ p k n. rw (c .before .before .q5 .given .1, c .standing .ensures, named-appointment (c .before .before .q5 .given .1) n)
 
 returns-6 : tie.Need-returns-6
@@ -44,7 +43,7 @@ returns-6 c =
     λ p k n. rw (c .before .before .before .q6 .given .1, c .before .has9 .ensures, in-use-is k _, c .has10 .ensures, in-use-is k _)
 
 returns-7 : tie.Need-returns-7
-unfolding absent placeOf
+unfolding absent
 returns-7 c = λ p k n. rw (c .before .before .q7 .given .1, named-rule (c .before .before .q7 .given .1) n)
 
 returns-8 : tie.Need-returns-8

@@ -1,6 +1,5 @@
 -- Check 8, kind by kind, by the masks, the row of the group and what stands at the place named.
 use Rattle.rules.specs.Refusals.{alreadySo}
-use Rattle.forms.specs.Naming.{placeOf}
 use Rattle.forms.proofs.Masking.{in-use-is}
 use Rattle.forms.proofs.Naming.{named-appointment, named-rule}
 use borrow.Author.Needs.{needs}
@@ -20,7 +19,7 @@ unfolding alreadySo
 returns-3 c = λ p l n. rw (c .before .before .q3 .given .1, c .direct2 .ensures p l)
 
 returns-4 : tie.Need-returns-4
-unfolding alreadySo placeOf
+unfolding alreadySo
 returns-4 c = λ p l n. rw (c .before .before .q4 .given .1, c .standing .ensures, named-appointment (c .before .before .q4 .given .1) n)
 
 returns-5 : tie.Need-returns-5
@@ -28,7 +27,7 @@ unfolding alreadySo
 returns-5 c = λ p l n. rw (c .before .q5 .given .1)
 
 returns-6 : tie.Need-returns-6
-unfolding alreadySo placeOf
+unfolding alreadySo
 returns-6 c = λ p l n. rw (c .before .q6 .given .1, named-rule (c .before .q6 .given .1) n)
 
 returns-7 : tie.Need-returns-7

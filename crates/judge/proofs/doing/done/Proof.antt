@@ -1,4 +1,4 @@
--- The verdict is that of the place.
+-- `done` gives the verdict that `doneBy` gives: a place that permits is cited, and where there is none nothing is.
 use mathlib.Core.Path.{sym, ap}
 use Rattle.rules.specs.Judging.{doneBy}
 use borrow.Author.Needs.{needs}
