@@ -4,6 +4,7 @@ pub mod Tracing
 pub mod Demanded
 pub mod Example
 pub mod Holding
+pub mod Authority
 pub mod Room
 pub mod Handed
 pub mod Running
