@@ -1,5 +1,5 @@
 -- Lines of authority for lists from the founding, in a second wording: what is read of the policies, and which requests were accepted,
--- with the appointments kind by kind. That the lines of Lines give it, each clause of theirs used, is proved in proofs/Authority.
+-- with the appointments kind by kind. That it says what Lines says is proved in proofs/Authority and proofs/Retracing.
 use mathlib.Core.Path.{_≡_}
 use mathlib.Core.Bool.{true}
 use mathlib.Core.List.{List}
