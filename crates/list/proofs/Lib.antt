@@ -4,6 +4,8 @@ pub mod Tracing
 pub mod Demanded
 pub mod Example
 pub mod Holding
+pub mod Authority
+pub mod Retracing
 pub mod Room
 pub mod Handed
 pub mod Running
