@@ -2,6 +2,7 @@
 pub mod Positions
 pub mod Tracing
 pub mod Demanded
+pub mod Accounting
 pub mod Example
 pub mod Holding
 pub mod Room

@@ -3,5 +3,6 @@ pub mod Runs
 pub mod Parts
 pub mod Lines
 pub mod Demand
+pub mod Accountable
 pub mod Report
 pub mod Filling
