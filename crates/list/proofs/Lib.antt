@@ -4,6 +4,8 @@ pub mod Tracing
 pub mod Demanded
 pub mod Accounting
 pub mod Example
+pub mod Picking
+pub mod Excluded
 pub mod Holding
 pub mod Room
 pub mod Handed
