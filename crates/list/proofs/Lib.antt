@@ -6,6 +6,9 @@ pub mod Accounting
 pub mod Example
 pub mod Picking
 pub mod Excluded
+pub mod Thirteen
+pub mod Told
+pub mod LineOfThree
 pub mod Holding
 pub mod Room
 pub mod Handed

@@ -2,6 +2,7 @@
 pub mod Runs
 pub mod Parts
 pub mod Lines
+pub mod Telling
 pub mod Demand
 pub mod Accountable
 pub mod Report
