@@ -44,25 +44,19 @@ abbrev last : Policy
 last = policyAt initial whole (end initial whole)
 
 -- At the end the objects 0 to 7 and 63 are in use, and one appointment is an owner's: that of 1, at place 0.
-in-use-at-end : some 64 (λ x. (ltb x 8 || eqb x 63) && not (inUse last x)) ≡ false
+at-end : (some 64 (λ x. (ltb x 8 || eqb x 63) && not (inUse last x)) ≡ false)
+    × (some 32 (λ i. eqb (appointment last i .kind) owner && not (eqb i 0)) ≡ false)
+    × (appointment last 0 .holder ≡ 1)
 unfolding computed run
-in-use-at-end = refl
-
-owners-at-end : some 32 (λ i. eqb (appointment last i .kind) owner && not (eqb i 0)) ≡ false
-unfolding computed run
-owners-at-end = refl
-
-first-at-end : appointment last 0 .holder ≡ 1
-unfolding computed run
-first-at-end = refl
+at-end = (refl, refl, refl)
 
 -- Whoever owns anything at the end is 1.
 only-1-owns : {u x : ℕ} → Owns (Then (end initial whole)) u x → u ≡ 1
 only-1-owns {u} o =
     let i = o .by .place in
     let e : i ≡ 0 =
-    only-at 32 0 (λ i. eqb (appointment last i .kind) owner) owners-at-end i (o .by .low) (decides-eqb _ owner .complete (o .by .at .is-kind)) in
-    sym (o .by .at .is-holder) ∙ ap (λ (n : ℕ). appointment last n .holder) e ∙ first-at-end
+    only-at 32 0 (λ i. eqb (appointment last i .kind) owner) (at-end .1) i (o .by .low) (decides-eqb _ owner .complete (o .by .at .is-kind)) in
+    sym (o .by .at .is-holder) ∙ ap (λ (n : ℕ). appointment last n .holder) e ∙ at-end .2
 
 -- Each of those objects has an owner, and he is 1.
 pub owned-by-1 : (x : ℕ) → (x < 8) ⊎ (x ≡ 63) → Owns (Then (end initial whole)) 1 x
@@ -79,7 +73,7 @@ owned-by-1 x c =
         64
         (λ x. ltb x 8 || eqb x 63)
         (inUse last)
-        in-use-at-end
+        (at-end .0)
         x
         low
         (decides-or (ltb x 8) (eqb x 63) (decides-ltb x 8) (decides-eqb x 63) .complete c)

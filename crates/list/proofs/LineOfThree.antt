@@ -29,16 +29,24 @@ Joined = MembershipLine initial thirteen (end initial thirteen)
 
 -- ---- The chains
 
-inside-0 : some 64 (direct last 0) ≡ false
+-- What is in what at the end: 0 in nothing, 3 in 4 and 0, 4 in 0, 6 in 5, 5 in 0; and one rule is in use, that of 4 and 5 at place 0.
+at-end : (some 64 (direct last 0) ≡ false)
+    × (some 64 (λ h. direct last 3 h && not (eqb h 4 || eqb h 0)) ≡ false)
+    × (some 64 (λ h. direct last 4 h && not (eqb h 0)) ≡ false)
+    × (some 64 (λ h. direct last 6 h && not (eqb h 5 || eqb h 0)) ≡ false)
+    × (some 64 (λ h. direct last 5 h && not (eqb h 0)) ≡ false)
+    × (some 64 (λ i. rule last i .used && not (eqb i 0)) ≡ false)
+    × (rule last 0 .users ≡ 4)
+    × (rule last 0 .targets ≡ 5)
 unfolding computed run
-inside-0 = refl
+at-end = (refl, refl, refl, refl, refl, refl, refl, refl)
 
 -- Nothing is above 0 but 0.
 top : {x g : ℕ} → x ≡ 0 → Under (view last) x g → g ≡ 0
 top e (itself i) = e
 top e (up {h = h} d l) =
     absurd
-    (none-below 64 (direct last 0) inside-0 h (in-use-below last h (omega (arith, d .group)))
+    (none-below 64 (direct last 0) (at-end .0) h (in-use-below last h (omega (arith, d .group)))
     (decides-direct last 0 h .complete (subst (λ (y : ℕ). Direct (view last) y h) e d)))
 
 -- Where b is in 0 alone, and a in nothing but b and 0, the one chain from a to b is that of the membership of a in b.
@@ -72,32 +80,7 @@ module _ (a b : ℕ) (apart : a ≡ b → ⊥) (below : b ≡ 0 → ⊥)
       go (inl z) = let p = told x h e z (m .0) in let q = none-told z f l (m .1) in cc
       go (inr z) = absurd (below (sym f ∙ top z l))
 
-inside-3 : some 64 (λ h. direct last 3 h && not (eqb h 4 || eqb h 0)) ≡ false
-unfolding computed run
-inside-3 = refl
-
-inside-4 : some 64 (λ h. direct last 4 h && not (eqb h 0)) ≡ false
-unfolding computed run
-inside-4 = refl
-
-inside-6 : some 64 (λ h. direct last 6 h && not (eqb h 5 || eqb h 0)) ≡ false
-unfolding computed run
-inside-6 = refl
-
-inside-5 : some 64 (λ h. direct last 5 h && not (eqb h 0)) ≡ false
-unfolding computed run
-inside-5 = refl
-
 -- ---- The whole
-
--- One rule is in use at the end, that at place 0.
-rules-at-end : some 64 (λ i. rule last i .used && not (eqb i 0)) ≡ false
-unfolding computed run
-rules-at-end = refl
-
-groups-at-end : (rule last 0 .users ≡ 4) × (rule last 0 .targets ≡ 5)
-unfolding computed run
-groups-at-end = (refl, refl)
 
 -- 3 may transmit on 6 by the rule at place 0, which 3 granted; as one whom 2 put into 4; on what 1 made in 5.
 abbrev pub account-of-3 : Account
@@ -108,24 +91,24 @@ unfolding tell
 told l = λ i. record { rule = of-rule i; user-chain = of-user i; target-chain = of-target i }
   where
     at-0 : l .place ≡ 0
-    at-0 = only-at 64 0 (λ i. rule last i .used) rules-at-end (l .place) (l .low) (l .permits .used)
+    at-0 = only-at 64 0 (λ i. rule last i .used) (at-end .5) (l .place) (l .low) (l .permits .used)
 
     of-rule : tellGranting (l .rule-line) ≡ rule-0
     of-rule = rule-told at-0 (l .rule-line)
 
     of-user : tellChain initial thirteen (end initial thirteen) (l .permits .covers-user) (l .user-line) ≡ 3-in-4 ∷ []
     of-user =
-        one-told 3 4 (λ e. omega arith) (λ e. omega arith) inside-3 inside-4 3-in-4 (λ x g e f m. told-3-4 e f m)
+        one-told 3 4 (λ e. omega arith) (λ e. omega arith) (at-end .1) (at-end .2) 3-in-4 (λ x g e f m. told-3-4 e f m)
         refl
-        (ap (λ (n : ℕ). rule last n .users) at-0 ∙ groups-at-end .0)
+        (ap (λ (n : ℕ). rule last n .users) at-0 ∙ at-end .6)
         (l .permits .covers-user)
         (l .user-line)
 
     of-target : tellChain initial thirteen (end initial thirteen) (l .permits .covers-target) (l .target-line) ≡ 6-in-5 ∷ []
     of-target =
-        one-told 6 5 (λ e. omega arith) (λ e. omega arith) inside-6 inside-5 6-in-5 (λ x g e f m. told-6-5 e f m)
+        one-told 6 5 (λ e. omega arith) (λ e. omega arith) (at-end .3) (at-end .4) 6-in-5 (λ x g e f m. told-6-5 e f m)
         refl
-        (ap (λ (n : ℕ). rule last n .targets) at-0 ∙ groups-at-end .1)
+        (ap (λ (n : ℕ). rule last n .targets) at-0 ∙ at-end .7)
         (l .permits .covers-target)
         (l .target-line)
 

@@ -139,32 +139,38 @@ module _ (n w kind : ℕ) {j u : ℕ} (e : j ≡ n) (f : u ≡ w) where
       none-below 32 (heldAt (at j) kind u) z′ (o .by .place) (o .by .low)
       (held (at j) kind u (o .by .place) (o .by .at .is-kind) (o .by .at .is-holder))
 
+-- The owner's appointment of 1 before records 4 and 6, and none as manager; the manager's of 2 before records 7 and 11, and none as owner;
+-- the administrator's of 3 before record 8.
+places : (some 32 (λ i. heldAt (at 4) owner 1 i && not (eqb i 0)) ≡ false)
+    × (some 32 (heldAt (at 4) manager 1) ≡ false)
+    × (some 32 (λ i. heldAt (at 6) owner 1 i && not (eqb i 0)) ≡ false)
+    × (some 32 (λ i. heldAt (at 7) manager 2 i && not (eqb i 1)) ≡ false)
+    × (some 32 (λ i. heldAt (at 8) administrator 3 i && not (eqb i 2)) ≡ false)
+    × (some 32 (λ i. heldAt (at 11) manager 2 i && not (eqb i 1)) ≡ false)
+    × (some 32 (heldAt (at 11) owner 2) ≡ false)
+unfolding computed run
+places = (refl, refl, refl, refl, refl, refl, refl)
+
 module _ {j u x : ℕ} where
-  pub owner-place-6 : j ≡ 6 → u ≡ 1 → (o : Owns (before initial thirteen j) u x) → o .by .place ≡ 0
-  unfolding computed run
-  owner-place-6 e f o = place-of 6 1 owner e f 0 refl (o .by .place) (o .by .low) (o .by .at .is-kind) (o .by .at .is-holder)
-
-  pub manager-place-7 : j ≡ 7 → u ≡ 2 → (o : Manages (before initial thirteen j) u x) → o .by .place ≡ 1
-  unfolding computed run
-  manager-place-7 e f o = place-of 7 2 manager e f 1 refl (o .by .place) (o .by .low) (o .by .at .is-kind) (o .by .at .is-holder)
-
   pub owner-place-4 : j ≡ 4 → u ≡ 1 → (o : Owns (before initial thirteen j) u x) → o .by .place ≡ 0
-  unfolding computed run
-  owner-place-4 e f o = place-of 4 1 owner e f 0 refl (o .by .place) (o .by .low) (o .by .at .is-kind) (o .by .at .is-holder)
+  owner-place-4 e f o = place-of 4 1 owner e f 0 (places .0) (o .by .place) (o .by .low) (o .by .at .is-kind) (o .by .at .is-holder)
 
   pub not-manager-4 : j ≡ 4 → u ≡ 1 → Manages (before initial thirteen j) u x → ⊥
-  unfolding computed run
-  not-manager-4 e f o = no-place 4 1 manager e f refl o
+  not-manager-4 e f o = no-place 4 1 manager e f (places .1) o
+
+  pub owner-place-6 : j ≡ 6 → u ≡ 1 → (o : Owns (before initial thirteen j) u x) → o .by .place ≡ 0
+  owner-place-6 e f o = place-of 6 1 owner e f 0 (places .2) (o .by .place) (o .by .low) (o .by .at .is-kind) (o .by .at .is-holder)
+
+  pub manager-place-7 : j ≡ 7 → u ≡ 2 → (o : Manages (before initial thirteen j) u x) → o .by .place ≡ 1
+  manager-place-7 e f o = place-of 7 2 manager e f 1 (places .3) (o .by .place) (o .by .low) (o .by .at .is-kind) (o .by .at .is-holder)
 
   pub manager-place-11 : j ≡ 11 → u ≡ 2 → (o : Manages (before initial thirteen j) u x) → o .by .place ≡ 1
-  unfolding computed run
-  manager-place-11 e f o = place-of 11 2 manager e f 1 refl (o .by .place) (o .by .low) (o .by .at .is-kind) (o .by .at .is-holder)
+  manager-place-11 e f o =
+      place-of 11 2 manager e f 1 (places .5) (o .by .place) (o .by .low) (o .by .at .is-kind) (o .by .at .is-holder)
 
   pub not-owner-11 : j ≡ 11 → u ≡ 2 → Owns (before initial thirteen j) u x → ⊥
-  unfolding computed run
-  not-owner-11 e f o = no-place 11 2 owner e f refl o
+  not-owner-11 e f o = no-place 11 2 owner e f (places .6) o
 
 pub administrator-place-8 : {j u a b : ℕ} → j ≡ 8 → u ≡ 3 → (o : Administers (before initial thirteen j) u a b) → o .by .place ≡ 2
-unfolding computed run
 administrator-place-8 e f o =
-    place-of 8 3 administrator e f 2 refl (o .by .place) (o .by .low) (o .by .at .is-kind) (o .by .at .is-holder)
+    place-of 8 3 administrator e f 2 (places .4) (o .by .place) (o .by .low) (o .by .at .is-kind) (o .by .at .is-holder)
