@@ -2,7 +2,13 @@
 pub mod Positions
 pub mod Tracing
 pub mod Demanded
+pub mod Accounting
 pub mod Example
+pub mod Picking
+pub mod Excluded
+pub mod Thirteen
+pub mod Told
+pub mod LineOfThree
 pub mod Holding
 pub mod Authority
 pub mod Retracing

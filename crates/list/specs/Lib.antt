@@ -2,7 +2,9 @@
 pub mod Runs
 pub mod Parts
 pub mod Lines
+pub mod Telling
 pub mod Demand
 pub mod Descent
+pub mod Accountable
 pub mod Report
 pub mod Filling
