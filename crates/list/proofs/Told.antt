@@ -11,7 +11,7 @@ use Rattle.rules.specs.declared.Request.the-variants.{Make, Put}
 use Rattle.rules.specs.Allowing.{Standing, appointing, granting}
 use Rattle.list.specs.Runs.{before, Done}
 use Rattle.list.specs.Lines.{AppointmentLine, GovernsLine, MembershipLine, RuleLine}
-use Rattle.list.specs.Telling.{Post, Membership, Granting, tellPost, tellGoverning, tellMembership, tellGranting}
+use Rattle.list.specs.Telling.{Appointing, Membership, Granting, tellAppointing, tellGoverning, tellMembership, tellGranting}
 use Rattle.list.proofs.Demanded.{third}
 use Rattle.list.proofs.Example.{thirteen}
 use Rattle.list.proofs.Thirteen.{manager-2, administrator-3, no-appoint-0, only-appoint-1, only-appoint-2, only-grant-0}
@@ -21,16 +21,16 @@ use Rattle.list.proofs.Thirteen.{not-manager-4, manager-place-11, not-o
 -- ---- The posts
 
 -- The founder's: the owner's appointment of 1 at place 0 stood at the founding.
-abbrev pub founder's : Post
-founder's = Post.stood 0 (record { kind = owner; holder = 1; a = 0; b = 0 })
+abbrev pub founder's : Appointing
+founder's = Appointing.stood 0 (record { kind = owner; holder = 1; a = 0; b = 0 })
 
 -- The manager's: record 6, by 1, who owned 0 by the founder's.
-abbrev pub manager's : Post
-manager's = Post.by-owner 1 manager-2 6 1 founder's
+abbrev pub manager's : Appointing
+manager's = Appointing.by-owner 1 manager-2 6 1 founder's
 
 -- The administrator's: record 7, by 2, who managed 4 and 5, each by the manager's.
-abbrev pub administrator's : Post
-administrator's = Post.by-manager 2 administrator-3 7 2 manager's manager's
+abbrev pub administrator's : Appointing
+administrator's = Appointing.by-manager 2 administrator-3 7 2 manager's manager's
 
 -- What stood at the founding with a line is the founder's.
 founding : {p : ℕ} {w : Appointment} → before initial thirteen 0 .appointment p ≡ w → Standing w
@@ -38,8 +38,8 @@ founding : {p : ℕ} {w : Appointment} → before initial thirteen 0 .appointmen
 founding {p} e s = let o = third thirteen .one-appointment p (subst Standing (sym e) s) in (o .0, sym e ∙ o .1)
 
 module _ {i p : ℕ} {w : Appointment} where
-  told-0 : p ≡ 0 → (l : AppointmentLine initial thirteen i p w) → tellPost l ≡ founder's
-  unfolding tellPost
+  told-0 : p ≡ 0 → (l : AppointmentLine initial thirteen i p w) → tellAppointing l ≡ founder's
+  unfolding tellAppointing
   told-0 z (AppointmentLine.stood e s n) = let o = founding e s in let a = o .0 in let b = o .1 in cc
   told-0 z (AppointmentLine.from-owner j u l d n k o y) =
       absurd (no-appoint-0 w (subst (λ (q : ℕ). Done initial thirteen j u (appointing q w)) z d))
@@ -47,8 +47,8 @@ module _ {i p : ℕ} {w : Appointment} where
       absurd (no-appoint-0 w (subst (λ (q : ℕ). Done initial thirteen j u (appointing q w)) z d))
 
 module _ {i p : ℕ} {w : Appointment} where
-  told-1 : p ≡ 1 → (l : AppointmentLine initial thirteen i p w) → tellPost l ≡ manager's
-  unfolding tellPost
+  told-1 : p ≡ 1 → (l : AppointmentLine initial thirteen i p w) → tellAppointing l ≡ manager's
+  unfolding tellAppointing
   told-1 z (AppointmentLine.stood e s n) = absurd (omega (arith, z, founding e s .0))
   told-1 z (AppointmentLine.from-owner j u l d n k o y) =
       let a = only-appoint-1 w (subst (λ (q : ℕ). Done initial thirteen j u (appointing q w)) z d) in
@@ -62,8 +62,8 @@ module _ {i p : ℕ} {w : Appointment} where
       absurd (omega (arith, k, ap (λ (v : Appointment). v .kind) (c .2)))
 
 module _ {i p : ℕ} {w : Appointment} where
-  told-2 : p ≡ 2 → (l : AppointmentLine initial thirteen i p w) → tellPost l ≡ administrator's
-  unfolding tellPost
+  told-2 : p ≡ 2 → (l : AppointmentLine initial thirteen i p w) → tellAppointing l ≡ administrator's
+  unfolding tellAppointing
   told-2 z (AppointmentLine.stood e s n) = absurd (omega (arith, z, founding e s .0))
   told-2 z (AppointmentLine.from-owner j u l d n k o y) =
       let c = only-appoint-2 w (subst (λ (q : ℕ). Done initial thirteen j u (appointing q w)) z d) in

@@ -12,22 +12,22 @@ use Rattle.list.specs.Lines.{Each, AppointmentLine, GovernsLine, Members
 
 -- The appointment w at a place: it stood at the start; or the record gave it, sent by an owner of its A; or by a manager of its A and its B.
 -- Behind it, the appointments of the sender.
-pub data Post : Type 0 where
-  stood : (place : ℕ) (w : Appointment) → Post
-  by-owner : (place : ℕ) (w : Appointment) (position sender : ℕ) → Post → Post
-  by-manager : (place : ℕ) (w : Appointment) (position sender : ℕ) → Post → Post → Post
+pub data Appointing : Type 0 where
+  stood : (place : ℕ) (w : Appointment) → Appointing
+  by-owner : (place : ℕ) (w : Appointment) (position sender : ℕ) → Appointing → Appointing
+  by-manager : (place : ℕ) (w : Appointment) (position sender : ℕ) → Appointing → Appointing → Appointing
 
 -- The direct membership of x in g: it stood at the start; or the record made it, with the sender's post for g; or put it, with his posts
 -- for x and for g.
 pub data Membership : Type 0 where
   stood : (x g : ℕ) → Membership
-  made : (x g position sender : ℕ) → Post → Membership
-  put : (x g position sender : ℕ) → Post → Post → Membership
+  made : (x g position sender : ℕ) → Appointing → Membership
+  put : (x g position sender : ℕ) → Appointing → Appointing → Membership
 
 -- The rule at a place, with its U, its T and its operations: it stood at the start, or the record granted it, with the sender's post.
 pub data Granting : Type 0 where
   stood : (place users targets operations : ℕ) → Granting
-  granted : (place users targets operations position sender : ℕ) → Post → Granting
+  granted : (place users targets operations position sender : ℕ) → Appointing → Granting
 
 pub record Account : Type 0 where
   pub rule : Granting
@@ -35,14 +35,14 @@ pub record Account : Type 0 where
   pub target-chain : List Membership
 
 module _ {start : Policy} {list : List Bytes} where
-  unfoldable pub tellPost : {i p : ℕ} {w : Appointment} → AppointmentLine start list i p w → Post
-  tellPost {i} {p} {w} (AppointmentLine.stood e s n) = Post.stood p w
-  tellPost {i} {p} {w} (AppointmentLine.from-owner j u l d n k o z) = Post.by-owner p w j u (tellPost z)
-  tellPost {i} {p} {w} (AppointmentLine.from-manager j u l d n k a y b z) = Post.by-manager p w j u (tellPost y) (tellPost z)
+  unfoldable pub tellAppointing : {i p : ℕ} {w : Appointment} → AppointmentLine start list i p w → Appointing
+  tellAppointing {i} {p} {w} (AppointmentLine.stood e s n) = Appointing.stood p w
+  tellAppointing {i} {p} {w} (AppointmentLine.from-owner j u l d n k o z) = Appointing.by-owner p w j u (tellAppointing z)
+  tellAppointing {i} {p} {w} (AppointmentLine.from-manager j u l d n k a y b z) = Appointing.by-manager p w j u (tellAppointing y) (tellAppointing z)
 
-  unfoldable pub tellGoverning : {j u x : ℕ} → GovernsLine start list j u x → Post
-  tellGoverning (GovernsLine.as-owner o l) = tellPost l
-  tellGoverning (GovernsLine.as-manager o l) = tellPost l
+  unfoldable pub tellGoverning : {j u x : ℕ} → GovernsLine start list j u x → Appointing
+  tellGoverning (GovernsLine.as-owner o l) = tellAppointing l
+  tellGoverning (GovernsLine.as-manager o l) = tellAppointing l
 
   unfoldable pub tellMembership : {i x g : ℕ} → MembershipLine start list i x g → Membership
   tellMembership {i} {x} {g} (MembershipLine.stood d n) = Membership.stood x g
@@ -52,7 +52,7 @@ module _ {start : Policy} {list : List Bytes} where
   unfoldable pub tellGranting : {i p : ℕ} {r : AccessRule} → RuleLine start list i p r → Granting
   tellGranting {i} {p} {r} (RuleLine.stood e s n) = Granting.stood p (r .users) (r .targets) (r .operations)
   tellGranting {i} {p} {r} (RuleLine.by-grant j u l d n o z) =
-      Granting.granted p (r .users) (r .targets) (r .operations) j u (tellPost z)
+      Granting.granted p (r .users) (r .targets) (r .operations) j u (tellAppointing z)
 
 module _ (start : Policy) (list : List Bytes) where
   -- Each direct membership of a chain, in its order.
