@@ -1,4 +1,4 @@
--- Demand 3, proved, and an example of what it says; the run of a list; and what the program prints.
+-- Demand 3, proved, in a second wording, and what it says of the sample; the run of a list; and what the program prints.
 pub mod Positions
 pub mod Tracing
 pub mod Demanded

@@ -64,7 +64,8 @@ module _ (a b : ℕ) (apart : a ≡ b → ⊥) (below : b ≡ 0 → ⊥)
       only-at 64 0 (direct last b) above-b h (in-use-below last h (omega (arith, d .group)))
       (decides-direct last b h .complete (subst (λ (y : ℕ). Direct (view last) y h) e d))
 
-  none-told : {x g : ℕ} → x ≡ b → g ≡ b → (l : Under (view last) x g) (m : Each Joined l) → tellChain initial thirteen (end initial thirteen) l m ≡ []
+  none-told : {x g : ℕ} → x ≡ b → g ≡ b → (l : Under (view last) x g) (m : Each Joined l)
+      → tellChain initial thirteen (end initial thirteen) l m ≡ []
   unfolding tellChain
   none-told e f (itself i) m = refl
   none-told e f (up d l) m = absurd (below (sym f ∙ top (over-b e d) l))

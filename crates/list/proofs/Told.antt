@@ -119,7 +119,7 @@ abbrev pub 6-in-5 : Membership
 
 pub told-3-4 : {i x g : ℕ} → x ≡ 3 → g ≡ 4 → (l : MembershipLine initial thirteen i x g) → tellMembership l ≡ 3-in-4
 unfolding tellMembership
-told-3-4 {i} {x} {g} e f (MembershipLine.stood d n) = absurd (omega (arith, e, third thirteen .one-membership x g d .0))
+told-3-4 {i} {x} {g} e f (MembershipLine.stood d n) = let h : x ≡ 1 = third thirteen .one-membership x g d .0 in absurd (omega arith)
 told-3-4 {i} {x} {g} e f (MembershipLine.by-make j u s l d n y) =
     let d′ : Done initial thirteen j u (Make 3 s 4) = rw (e, f) at d in absurd (no-make-3-4 d′)
 told-3-4 {i} {x} {g} e f (MembershipLine.by-put j u l d n y z) =
@@ -133,7 +133,7 @@ told-3-4 {i} {x} {g} e f (MembershipLine.by-put j u l d n y z) =
 
 pub told-6-5 : {i x g : ℕ} → x ≡ 6 → g ≡ 5 → (l : MembershipLine initial thirteen i x g) → tellMembership l ≡ 6-in-5
 unfolding tellMembership
-told-6-5 {i} {x} {g} e f (MembershipLine.stood d n) = absurd (omega (arith, f, third thirteen .one-membership x g d .1))
+told-6-5 {i} {x} {g} e f (MembershipLine.stood d n) = let h : g ≡ 0 = third thirteen .one-membership x g d .1 in absurd (omega arith)
 told-6-5 {i} {x} {g} e f (MembershipLine.by-make j u s l d n y) =
     let d′ : Done initial thirteen j u (Make 6 s 5) = rw (e, f) at d in
     let c = only-make-6-5 d′ in

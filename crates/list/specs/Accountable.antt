@@ -55,7 +55,8 @@ module _ (start : Policy) (list : List Bytes) where
 
   -- Who owns or manages an object after request i that was in use did so before, or its sender owned it before.
   pub record OwnerHanded (i : ℕ) : Type 0 where
-    pub owned : (w x : ℕ) → 0 < Then i .sort x → Owns (Then (suc i)) w x → Owns (Then i) w x ⊎ Owns (Then i) (sender (recordAt start list i)) x
+    pub owned : (w x : ℕ) → 0 < Then i .sort x → Owns (Then (suc i)) w x
+        → Owns (Then i) w x ⊎ Owns (Then i) (sender (recordAt start list i)) x
     pub managed : (w x : ℕ) → 0 < Then i .sort x → Manages (Then (suc i)) w x
         → Manages (Then i) w x ⊎ Owns (Then i) (sender (recordAt start list i)) x
 

@@ -1,4 +1,4 @@
--- A list of requests and how it is handed in, the lines of authority in it, demand 3, and what the program prints.
+-- A list of requests and how it is handed in, the lines of authority in it, demand 3 in two wordings, and what the program prints.
 pub mod Runs
 pub mod Parts
 pub mod Lines
