@@ -11,4 +11,5 @@ pub mod Origins
 pub mod Staying
 pub mod Readings
 pub mod Verdicts
+pub mod Numbered
 pub mod Bounded
