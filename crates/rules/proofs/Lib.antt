@@ -12,4 +12,5 @@ pub mod Staying
 pub mod Readings
 pub mod Verdicts
 pub mod Numbered
+pub mod Limits
 pub mod Bounded
