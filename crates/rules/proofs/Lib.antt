@@ -12,5 +12,6 @@ pub mod Staying
 pub mod Readings
 pub mod Verdicts
 pub mod Numbered
+pub mod Encoding
 pub mod Limits
 pub mod Bounded
