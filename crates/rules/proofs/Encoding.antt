@@ -2,16 +2,18 @@
 -- with the kind and the length of the table, for all values of the fields. Kind by kind, by computation.
 use mathlib.Core.Path.{_≡_, refl, sym, ap, _∙_}
 use mathlib.Core.Bool.{Bool, true, false, _||_}
-use mathlib.Core.List.{List}
-use Prim.Native.Nat.{ℕ}
+use mathlib.Core.List.{List, [], _∷_}
+use Prim.Native.Nat.{ℕ, zero, suc, _+_, _≤_}
+use native.Mathlib.Omega.{arith}
 use lib.ListN.{length}
 use lib.NonEmpty.{List⁺, one, _∷⁺_, Each⁺}
-use Rattle.frame.specs.Fields.{lengthField, kindField}
+use Rattle.frame.specs.Fields.{byte, lengthField, kindField}
 use Rattle.reach.specs.declared.Policy.{Policy}
 use Rattle.rules.specs.declared.Request.{Request}
 use Rattle.rules.specs.declared.Request.the-variants.{Make, Put, Take, Appoint, Dismiss, Grant, Withdraw, Use}
 use Rattle.rules.specs.Records.{lengthOf, sender, request}
 use Rattle.rules.specs.Refusals.{torn, unknown, misfit}
+use Rattle.rules.specs.Allowing.{WellFormed}
 use Rattle.rules.specs.Sample.{MAKE, PUT, TAKE, APPOINT, DISMISS, GRANT, WITHDRAW, USE}
 
 -- The record by which u asks for q.
@@ -84,3 +86,44 @@ read-back u (Dismiss i) = refl
 read-back u (Grant i v t o) = refl
 read-back u (Withdraw i) = refl
 read-back u (Use x k) = refl
+
+-- [01:records.10] "In hexadecimal, 08 00 01 00 01 02 02 00: member 1 makes member 2 in group 0."
+pub hexadecimal : 0x08 ∷ 0x00 ∷ 0x01 ∷ 0x00 ∷ 0x01 ∷ 0x02 ∷ 0x02 ∷ 0x00 ∷ [] ≡ encoded 1 (Make 2 2 0)
+hexadecimal = refl
+
+-- ---- And there is no other record: a well-formed one is the record of what it asks for
+
+-- The list of the first n values of f.
+abbrev values : ℕ → (ℕ → ℕ) → List ℕ
+values zero f = []
+values (suc n) f = f 0 ∷ values n (λ i. f (suc i))
+
+spelled : (b : List ℕ) → values (length b) (byte b) ≡ b
+spelled [] = refl
+spelled (x ∷ xs) = ap (λ (l : List ℕ). x ∷ l) (spelled xs)
+
+-- Four bytes that are the two fields, and the bytes after them.
+headed : (b : List ℕ) (n k : ℕ) → length b ≡ suc (suc (suc (suc n))) → length b ≡ lengthField b → kindField b ≡ k → n ≤ 251 → k ≤ 255
+    → suc (suc (suc (suc n))) ∷ 0 ∷ k ∷ 0 ∷ values n (λ i. byte b (suc (suc (suc (suc i))))) ≡ b
+headed b n k l f e h h′ =
+    let b0 : suc (suc (suc (suc n))) ≡ byte b 0 = omega arith in
+    let b1 : 0 ≡ byte b 1 = omega arith in
+    let b2 : k ≡ byte b 2 = omega arith in
+    let b3 : 0 ≡ byte b 3 = omega arith in
+    cc (spelled b, ap (λ (m : ℕ). values m (byte b)) l)
+
+pub encoded-request : (b : List ℕ) → WellFormed b → encoded (sender b) (request b) ≡ b
+unfolding lengthOf request
+encoded-request b w = go (kindField b) refl (w .known .0) (w .known .1)
+  where
+    go : (k : ℕ) → kindField b ≡ k → 1 ≤ k → k ≤ 8 → encoded (sender b) (request b) ≡ b
+    go zero e low high = absurd (omega arith)
+    go (suc zero) e low high = rw e (headed b 4 1 (rw e at (w .fitting)) (w .exact) e (omega arith) (omega arith))
+    go (suc (suc zero)) e low high = rw e (headed b 3 2 (rw e at (w .fitting)) (w .exact) e (omega arith) (omega arith))
+    go (suc (suc (suc zero))) e low high = rw e (headed b 3 3 (rw e at (w .fitting)) (w .exact) e (omega arith) (omega arith))
+    go (suc (suc (suc (suc zero)))) e low high = rw e (headed b 6 4 (rw e at (w .fitting)) (w .exact) e (omega arith) (omega arith))
+    go (suc (suc (suc (suc (suc zero))))) e low high = rw e (headed b 2 5 (rw e at (w .fitting)) (w .exact) e (omega arith) (omega arith))
+    go (suc (suc (suc (suc (suc (suc zero)))))) e low high = rw e (headed b 5 6 (rw e at (w .fitting)) (w .exact) e (omega arith) (omega arith))
+    go (suc (suc (suc (suc (suc (suc (suc zero))))))) e low high = rw e (headed b 2 7 (rw e at (w .fitting)) (w .exact) e (omega arith) (omega arith))
+    go (suc (suc (suc (suc (suc (suc (suc (suc zero)))))))) e low high = rw e (headed b 3 8 (rw e at (w .fitting)) (w .exact) e (omega arith) (omega arith))
+    go (suc (suc (suc (suc (suc (suc (suc (suc (suc k))))))))) e low high = absurd (omega arith)
