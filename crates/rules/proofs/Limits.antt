@@ -1,17 +1,21 @@
 -- Check 5 as a table of limits: a request is off the sheet exactly if one of its numbers is outside its range, whichever and by however
 -- much. Kind by kind, each condition by what it lets pass.
-use mathlib.Core.Path.{_≡_, refl}
+use mathlib.Core.Path.{_≡_, refl, ap}
 use mathlib.Core.Bool.{Bool, true, false, not}
 use Prim.Native.Nat.{ℕ, _≤_}
 use native.Mathlib.Omega.{arith}
 use lib.Dec.{eqb, ltb}
 use lib.NonEmpty.{List⁺, one, _∷⁺_, Each⁺}
+use Rattle.reach.specs.declared.Policy.{Policy}
 use Rattle.reach.specs.Tests.{_⇒_∥_}
 use Rattle.reach.specs.Privileges.{administrator}
 use Rattle.reach.proofs.Testing.{decides-and, decides-eqb}
 use Rattle.rules.specs.declared.Request.{Request}
 use Rattle.rules.specs.declared.Request.the-variants.{Make, Put, Take, Appoint, Dismiss, Grant, Withdraw, Use}
-use Rattle.rules.specs.Refusals.{oneToThree, offTheSheet}
+use Rattle.rules.specs.declared.Verdict.the-variants.{OffTheSheet}
+use Rattle.rules.specs.Refusals.{stranger, oneToThree, offTheSheet}
+use Rattle.rules.specs.Judging.{verdictOn, verdict}
+use Rattle.rules.proofs.Encoding.{encoded, Read, read-back}
 use Rattle.rules.proofs.Passing.{Passes, passes-as, passes-or, passes-not, passes-of, passes-ltb, decides-leb}
 
 -- A number of a record, and the least and the greatest that it may be.
@@ -115,3 +119,19 @@ each-needed false (l ∷⁺ ls) f = (λ n. absurd (n (f refl .0)), each-needed f
 -- [01:no.5] "a number outside its table ..": with any one number outside its limits, whatever the others are, it is.
 pub outside : (q : Request) → Each⁺ (λ (l : Limit). (Within l → ⊥) → offTheSheet q ≡ true) (limitsOf q)
 outside q = each-needed (offTheSheet q) (limitsOf q) (limits q .sound)
+
+-- Its record is then answered 5, whoever of the users sends it and whatever the policy is.
+pub outside-answered : (p : Policy) (u : ℕ) (q : Request) → stranger p u ≡ false → offTheSheet q ≡ true
+    → verdict p (encoded u q) ≡ OffTheSheet
+unfolding verdict verdictOn
+outside-answered p u q s o =
+    let r = read-back u q in
+    rw (
+      ap (λ (n : Read). n .asks) r,
+      ap (λ (n : Read). n .by) r,
+      ap (λ (n : Read). n .is-torn) r,
+      ap (λ (n : Read). n .is-unknown) r,
+      ap (λ (n : Read). n .is-misfit) r,
+      s,
+      o,
+    )
