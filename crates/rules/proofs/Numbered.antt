@@ -33,19 +33,40 @@ refusals =
 pub each-refusal-keeps : (p : Policy) (a : Answer) → OneAnswer p a
     → Each⁺ (λ (r : ℕ × Verdict). a .verdict ≡ r .1 → (codeOf (a .verdict) ≡ r .0) × (a .policy ≡ p)) refusals
 unfolding codeOf
-each-refusal-keeps p a o =
-    (keeps _ _ refl,
-    (keeps _ _ refl,
-    (keeps _ _ refl,
-    (keeps _ _ refl,
-    (keeps _ _ refl,
-    (keeps _ _ refl,
-    (keeps _ _ refl,
-    (keeps _ _ refl,
-    (keeps _ _ refl,
-    (keeps _ _ refl,
-    (keeps _ _ refl,
-    keeps _ _ refl)))))))))))
+each-refusal-keeps p a o = (
+  keeps _ _ refl,
+  (
+    keeps _ _ refl,
+    (
+      keeps _ _ refl,
+      (
+        keeps _ _ refl,
+        (
+          keeps _ _ refl,
+          (
+            keeps _ _ refl,
+            (
+              keeps _ _ refl,
+              (
+                keeps _ _ refl,
+                (
+                  keeps _ _ refl,
+                  (
+                    keeps _ _ refl,
+                    (
+                      keeps _ _ refl,
+                      keeps _ _ refl,
+                    ),
+                  ),
+                ),
+              ),
+            ),
+          ),
+        ),
+      ),
+    ),
+  ),
+)
   where
     keeps : (n : ℕ) (v : Verdict) → codeOf v ≡ suc n → a .verdict ≡ v → (codeOf (a .verdict) ≡ suc n) × (a .policy ≡ p)
     keeps n v e h =
