@@ -1,5 +1,5 @@
 -- Document 01's sample, of the rules themselves: judged from the founding, the sixteen records give the sixteen lines; so do those after
--- them, and the records that walk through the traps. By computation.
+-- them, and the records that walk through the traps, the rows and the limits. By computation.
 use mathlib.Core.Path.{_≡_, refl}
 use mathlib.Core.List.{List, _++_, map}
 use Prim.Native.Nat.{ℕ}

@@ -1,4 +1,5 @@
--- Records that go through the traps, and through the rows of the refusal table, after the sample: each with the answer that it is to get.
+-- Records that go through the traps, the rows of the refusal table and the greatest number of each table, after the sample: each with the
+-- answer that it is to get.
 use mathlib.Core.List.{List, [], _∷_}
 use Prim.Native.Nat.{ℕ}
 use Rattle.rules.specs.Sample.{MAKE, PUT, TAKE, APPOINT, DISMISS, GRANT, WITHDRAW, USE, ok, no}
