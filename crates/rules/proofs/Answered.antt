@@ -1,5 +1,5 @@
 -- Document 01's sample, of the rules themselves: judged from the founding, the sixteen records give the sixteen lines; so do those after
--- them, and the records that walk through the traps. By computation.
+-- them, and the records that walk through the traps, the rows and the limits. By computation.
 use mathlib.Core.Path.{_≡_, refl}
 use mathlib.Core.List.{List, _++_, map}
 use Prim.Native.Nat.{ℕ}
@@ -18,7 +18,7 @@ use Rattle.rules.specs.Refusals.{torn, unknown, misfit, stranger, offThe
 use Rattle.rules.specs.Refusals.{handOver, orphan}
 use Rattle.rules.specs.Judging.{done, verdictOn, verdict, judge, answers}
 use Rattle.rules.specs.Sample.{records, expected, further, furtherExpected}
-use Rattle.rules.specs.Trials.{recordOf, answerOf, traps, rows}
+use Rattle.rules.specs.Trials.{recordOf, answerOf, traps, rows, lastTarget, lastGroup, lastUser, gainFirst}
 
 -- The answers with every rule open: what is to compute opens this one.
 unfoldable pub computed : Policy → List (List ℕ) → List (ℕ × ℕ)
@@ -47,3 +47,21 @@ sample-traps = refl
 pub sample-rows : answers initial (records ++ map recordOf rows) ≡ expected ++ map answerOf rows
 unfolding computed
 sample-rows = refl
+
+-- The greatest number of each table, in each field that names one, after the sample.
+pub sample-last-target : answers initial (records ++ map recordOf lastTarget) ≡ expected ++ map answerOf lastTarget
+unfolding computed
+sample-last-target = refl
+
+pub sample-last-group : answers initial (records ++ map recordOf lastGroup) ≡ expected ++ map answerOf lastGroup
+unfolding computed
+sample-last-group = refl
+
+pub sample-last-user : answers initial (records ++ map recordOf lastUser) ≡ expected ++ map answerOf lastUser
+unfolding computed
+sample-last-user = refl
+
+-- Own gain before hand-over, after the sample.
+pub sample-gain-first : answers initial (records ++ map recordOf gainFirst) ≡ expected ++ map answerOf gainFirst
+unfolding computed
+sample-gain-first = refl

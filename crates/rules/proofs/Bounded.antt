@@ -88,8 +88,9 @@ cited-bounded p b = go (ℕ-discrete (codeOf (judge p b .verdict)) 0)
 -- Demand 1 of whatever the judge answers.
 pub one-answer : (p : Policy) (b : List ℕ) (a : Answer) → a ≡ judge p b → OneAnswer p a
 one-answer p b a e = record {
-  numbered = code-bounded (a .verdict);
+  numbered = omega (arith, code-bounded (a .verdict));
   refusal-keeps = λ n.
-      let refused = refused-code p b (λ z. n (ap (λ (r : Answer). codeOf (r .verdict)) e ∙ z)) in
+      let same : codeOf (a .verdict) ≡ codeOf (judge p b .verdict) = ap (λ (r : Answer). codeOf (r .verdict)) e in
+      let refused = refused-code p b (λ z. n (omega (arith, same, z))) in
       ap (λ (r : Answer). r .policy) e ∙ refused-same p b refused;
 }

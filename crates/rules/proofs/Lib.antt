@@ -11,4 +11,7 @@ pub mod Origins
 pub mod Staying
 pub mod Readings
 pub mod Verdicts
+pub mod Numbered
+pub mod Encoding
+pub mod Limits
 pub mod Bounded
