@@ -25,7 +25,8 @@ module _ (picture bytes buffer : Bytes) where
   pub no-room : length picture ≡ 960 → length buffer < 2 → GainTold picture bytes buffer buffer 0
   no-room long h = untold (rw (eq-eqb (length picture) 960 long, lt-leb 2 (length buffer) h))
 
-  module _ (p : Policy) (g : Gain) (long : length picture ≡ 960) (h : 2 ≤ length buffer) (e : p ≡ policyOf picture) (s : OwnGainOf p bytes g) where
+  module _ (p : Policy) (g : Gain) (long : length picture ≡ 960) (h : 2 ≤ length buffer)
+      (e : p ≡ policyOf picture) (s : OwnGainOf p bytes g) where
     fits : gainFits picture buffer ≡ true
     fits = rw (eq-eqb (length picture) 960 long, le-leb 2 (length buffer) h)
 
