@@ -61,6 +61,16 @@ size_t selkaum_run(const uint8_t *bytes, size_t bytes_len,
                    uint8_t *cited, size_t cited_len,
                    uint8_t *policy, size_t policy_len);
 
+/* Tells why a record is refused for own gain. If the board refuses the record on the policy with 10, and it would permit its sender
+ * something that he is not permitted, writes the first such permission, gear by gear and operation by operation, over the first two bytes
+ * of `gain`: the gear at 0 and the operation, 0 to 7, at 1; those behind them stay as they are. Returns 2. If the record is answered
+ * otherwise, or would give its sender no permission but something to own, to manage or to administer, if `policy_len` is not 960, or
+ * `gain_len` is less than 2, it writes nothing and returns 0.
+ */
+size_t selkaum_gain(const uint8_t *policy, size_t policy_len,
+                    const uint8_t *record, size_t record_len,
+                    uint8_t *gain, size_t gain_len);
+
 #ifdef __cplusplus
 }
 #endif

@@ -31,6 +31,15 @@ extern "C" {
         policy: *mut u8,
         policy_len: usize,
     ) -> usize;
+
+    fn selkaum_gain(
+        policy: *const u8,
+        policy_len: usize,
+        record: *const u8,
+        record_len: usize,
+        gain: *mut u8,
+        gain_len: usize,
+    ) -> usize;
 }
 
 /// An answer whose sheet is a picture, as the board returns it.
@@ -142,6 +151,39 @@ pub fn run(bytes: &[u8], ends: &[usize]) -> Run {
     let written = run_into(bytes, ends, codes, cited, picture);
     assert_eq!(written, PICTURE, "the board runs a list that fits");
     run
+}
+
+/// `selkaum_gain` as it is: writes the permit that a record refused for own gain would give over
+/// the start of `gain`, and returns the number of bytes written.
+pub fn gain_into(policy: &[u8], record: &[u8], gain: &mut [u8]) -> usize {
+    // SAFETY: the slices' bytes are there, and none is lent twice, for `gain` is lent alone.
+    unsafe {
+        selkaum_gain(
+            policy.as_ptr(),
+            policy.len(),
+            record.as_ptr(),
+            record.len(),
+            gain.as_mut_ptr(),
+            gain.len(),
+        )
+    }
+}
+
+/// The gear and the operation of the first permit that a record would give its sender, if the
+/// board refuses it for own gain on the sheet of a picture and it would give one.
+pub fn gain(picture: &[u8; PICTURE], record: &[u8]) -> Option<(u8, u8)> {
+    let mut gain = [0; 2];
+    match gain_into(picture, record, &mut gain) {
+        2 => Some((gain[0], gain[1])),
+        written => {
+            assert_eq!(
+                (written, gain),
+                (0, [0; 2]),
+                "the board writes a whole gain"
+            );
+            None
+        }
+    }
 }
 
 /// The picture of the founding.

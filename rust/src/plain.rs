@@ -43,6 +43,18 @@ pub fn judge(sheet: &Sheet, record: &[u8]) -> Answer {
     }
 }
 
+/// The gear and the operation of the first permit that a record would give its sender, if it is
+/// refused for own gain and would give one.
+pub fn permit_refused(sheet: &Sheet, record: &[u8]) -> Option<(u8, u8)> {
+    if judge(sheet, record).code != OWN_GAIN {
+        return None;
+    }
+    let (sender, request) = read(record).expect("an earlier check would apply");
+    let before = Holdings::of(*sheet);
+    let after = Holdings::of(successor(*sheet, request));
+    permit_gained(&before, &after, sender)
+}
+
 /// The twelve checks in order: the sheet after and the cited rule, or the first refusal.
 fn accept(sheet: &Sheet, record: &[u8]) -> Result<(Sheet, u8), u8> {
     let (sender, request) = read(record)?;
@@ -253,7 +265,7 @@ fn set_membership(sheet: &mut Sheet, x: u8, g: u8, there: bool) {
 fn gains(before: &Holdings, after: &Holdings, sender: u8) -> bool {
     gains_ownership_or_management(before, after, sender)
         || gains_administration(before, after, sender)
-        || gains_permit(before, after, sender)
+        || permit_gained(before, after, sender).is_some()
 }
 
 fn gains_ownership_or_management(before: &Holdings, after: &Holdings, sender: u8) -> bool {
@@ -278,10 +290,17 @@ fn gains_administration(before: &Holdings, after: &Holdings, sender: u8) -> bool
     })
 }
 
-fn gains_permit(before: &Holdings, after: &Holdings, sender: u8) -> bool {
-    before.of_sort(GEAR).any(|gear| {
-        (0..8).any(|k| after.permitted(sender, k, gear) && !before.permitted(sender, k, gear))
-    })
+/// "The search for a permit that the sender would gain goes through gear and operations and
+/// stops at the first found."
+fn permit_gained(before: &Holdings, after: &Holdings, sender: u8) -> Option<(u8, u8)> {
+    for gear in before.of_sort(GEAR) {
+        for k in 0..8 {
+            if after.permitted(sender, k, gear) && !before.permitted(sender, k, gear) {
+                return Some((gear, k));
+            }
+        }
+    }
+    None
 }
 
 /// 11: "PUT would give some member ownership or management of an object that the sender

@@ -1,7 +1,8 @@
--- The laws of the picture: tables as they are read and stored, the picture of a policy as a whole, that it is faithful; and what a list
--- leaves in three buffers.
+-- The laws of the picture: tables as they are read and stored, the picture of a policy as a whole, that it is faithful; what a list
+-- leaves in three buffers, and what is told of a gain.
 pub mod Tabling
 pub mod Storing
 pub mod Picturing
 pub mod Faithful
 pub mod Filling
+pub mod Telling

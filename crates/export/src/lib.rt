@@ -7,6 +7,7 @@ ghost use Rattle.list.specs.Demand.{FoundingDemand3};
 ghost use Rattle.list.specs.Report.{report};
 ghost use Rattle.export.specs.Picture.{Judged};
 ghost use Rattle.export.specs.Listed.{Listed};
+ghost use Rattle.export.specs.Told.{GainTold};
 
 mod drawing;
 mod reading;
@@ -15,7 +16,9 @@ use drawing::put_policy;
 use judge::cited_of;
 use judge::code_of;
 use judge::judge;
+use judge::own_gain_of;
 use reading::policy_of;
+use rows::Gain;
 
 // The lines for the records of an input of any length into out, as the program prints them for one that is not too long. A buffer that is
 // too small gets as much of the text as it has room for. The result counts the bytes written. Of the records demand 3 holds, whole.
@@ -74,4 +77,27 @@ pub extern "C" fn selkaum_run(
     let after = outcome.policy;
     put_policy(policy, after);
     960
+}
+
+// Tells why a record is refused for own gain: the first permission that it would give its sender, target by target and operation by
+// operation. Target and operation go into the first two bytes of the gain, and the result is 2. Where the record is answered otherwise, or
+// would give no permission, where the picture isn't 960 bytes or the gain is too short, nothing is written, and the result is 0.
+#[no_mangle]
+pub extern "C" fn selkaum_gain(policy: &[u8], bytes: &[u8], gain: &mut [u8]) -> usize
+    ensures { λ r. ⌜ GainTold (now (policy .entry)) (now (bytes .entry)) (now (gain .entry)) (now (gain .exit)) r ⌝ }
+{
+    if policy.len() != 960 {
+        return 0;
+    }
+    if gain.len() < 2 {
+        return 0;
+    }
+    match own_gain_of(policy_of(policy), bytes) {
+        Gain::Permission(target, operation) => {
+            gain[0] = target;
+            gain[1] = operation;
+            2
+        }
+        Gain::Nothing => 0,
+    }
 }

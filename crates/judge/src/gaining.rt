@@ -4,7 +4,12 @@ ghost use Rattle.reach.specs.Words.{bit, TableOf};
 ghost use Rattle.reach.specs.Tables.{view};
 ghost use Rattle.reach.specs.Privileges.{Permitted};
 ghost use Rattle.gains.specs.Giving.{FirstPermission};
+ghost use Rattle.judge.specs.Telling.{OwnGainOf};
 use crate::doing::after;
+use crate::judge;
+use crate::numbers::code_of;
+use forms::request_of;
+use frame::byte;
 use reach::Policy;
 use rows::Gain;
 use rows::gained;
@@ -33,4 +38,16 @@ pub fn permission_gained(p: Policy, u: u8, q: Request) -> Gain
     let had = permissions(p, m.objects, u);
     let got = permissions(after(p, q), m.objects, u);
     gained(had, got)
+}
+
+// The first permission that a record would give its sender, if the board refuses it for own gain, and nothing if it answers otherwise.
+pub fn own_gain_of(p: Policy, bytes: &[u8]) -> Gain
+    ensures { λ r. ⌜ OwnGainOf p (now (bytes .entry)) r ⌝ }
+{
+    let answer = judge(p, bytes);
+    let verdict = answer.verdict;
+    if code_of(verdict) != 10 {
+        return Gain::Nothing;
+    }
+    permission_gained(p, byte(bytes, 4), request_of(bytes))
 }

@@ -25,6 +25,7 @@ use forms::torn;
 use forms::unknown;
 use forms::wrong_sort;
 use frame::byte;
+pub use gaining::own_gain_of;
 pub use gaining::permission_gained;
 use gains::hand_over;
 use gains::own_gain;

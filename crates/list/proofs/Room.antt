@@ -3,11 +3,12 @@
 use mathlib.Core.Path.{_≡_, refl}
 use mathlib.Core.Bool.{Bool, true, false, cond}
 use mathlib.Core.List.{List, [], _∷_, _++_, append-nil}
-use Prim.Native.Nat.{ℕ, _+_, _*_, _≤_, zero-le}
+use Prim.Native.Nat.{ℕ, _+_, _*_, _≤_, _<_, zero-le}
 use native.Mathlib.Omega.{arith}
 use lib.Dec.{ltb}
 use lib.ListN.{length, take}
-use borrow.Author.Tests.{ltb-false}
+use lib.Seq.{take-all}
+use borrow.Author.Tests.{lt-ltb, ltb-false}
 use Rattle.reach.specs.declared.Policy.{Policy}
 use Rattle.reach.specs.Tests.{_⇒_∥_}
 use Rattle.reach.specs.Tables.{initial}
@@ -68,3 +69,8 @@ printed-whole input buffer e p = printed-all p (omega (arith, output-fits input)
 pub printed-count : (input buffer : Bytes) {buffer′ : Bytes} {n : ℕ} → length buffer ≡ 212992 → Printed buffer (output input) buffer′ n
     → n ≡ length (output input)
 printed-count input buffer e p = omega (arith, p .count, output-fits input)
+
+-- A buffer of more than 65,536 bytes that is full is too long: what it cut off is never missed.
+pub full-too-long : (buffer : Bytes) (read : ℕ) → 65536 < length buffer → length buffer ≤ read → output (take read buffer) ≡ tooLong
+unfolding output
+full-too-long buffer read h full = rw (take-all read buffer full, lt-ltb 65536 (length buffer) h)

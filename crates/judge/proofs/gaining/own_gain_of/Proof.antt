@@ -1,0 +1,62 @@
+-- A record that is refused with 10 is told by what its request gives its sender, and for every other nothing is told.
+use mathlib.Core.Path.{_≡_, refl, sym, ap, subst, _∙_}
+use mathlib.Core.List.{List}
+use Prim.Native.Nat.{ℕ}
+use native.Mathlib.Omega.{arith}
+use Rattle.reach.specs.declared.Policy.{Policy}
+use Rattle.rules.specs.declared.Request.{Request}
+use Rattle.rules.specs.declared.Answer.{Answer}
+use Rattle.rules.specs.Records.{sender, request}
+use Rattle.rules.specs.Judging.{codeOf, judge}
+use Rattle.rows.specs.declared.Gain.{Gain}
+use Rattle.rows.specs.declared.Gain.the-variants.{Nothing}
+use Rattle.gains.specs.Giving.{FirstPermission}
+use Rattle.judge.specs.Telling.{OwnGainOf}
+use borrow.Author.Needs.{needs}
+use Rattle.judge.proofs.gaining.own_gain_of.Statement.{statement}
+use Rattle.judge.proofs.gaining.own_gain_of.Tie as tie
+
+module _ (p : Policy) (b : List ℕ) (a : Answer) (code : ℕ) (judged : a ≡ judge p b) (coded : code ≡ codeOf (a .verdict)) where
+  answered : code ≡ codeOf (judge p b .verdict)
+  answered = coded ∙ ap (λ (a : Answer). codeOf (a .verdict)) judged
+
+  untold : (code ≡ 10 → ⊥) → OwnGainOf p b Nothing
+  untold other = record { refused = λ e. absurd (other (answered ∙ e)); otherwise = λ _. refl }
+
+  told : (u : ℕ) (q : Request) (g : Gain) → code ≡ 10 → u ≡ sender b → q ≡ request b → FirstPermission p u q g → OwnGainOf p b g
+  told u q g ten sent asked first =
+      record {
+        refused = λ _. subst (λ (q : Request). FirstPermission p (sender b) q g) asked
+            (subst (λ (u : ℕ). FirstPermission p u q g) sent first);
+        otherwise = λ other. absurd (other (sym answered ∙ ten));
+      }
+
+returns : tie.Need-returns
+returns c =
+    let code = c .before in
+    let judging = code .before in
+    untold _ _ _ _ (judging .judge .ensures .0) (code .code-of .ensures) (λ e. omega (arith, e, c .if1 .taken))
+
+returns-2 : tie.Need-returns-2
+returns-2 c =
+    let asked = c .before in
+    let sent = asked .before in
+    let code = sent .before .before in
+    let judging = code .before in
+    told _ _ _ _ (judging .judge .ensures .0) (code .code-of .ensures) _ _ _
+    (omega (arith, sent .before .if1 .left))
+    (omega (arith, sent .byte .ensures))
+    (asked .request-of .ensures)
+    (c .permission-gained .ensures)
+
+pub own-gain-of-spec : {M : Type 1} → statement M
+own-gain-of-spec =
+    tie.close
+    (tie.spec
+    (λ c κs. search needs)
+    (λ c κs. search needs)
+    returns
+    (λ c κs. search needs)
+    (λ c κs. search needs)
+    (λ c κs. search needs)
+    returns-2)
