@@ -48,20 +48,20 @@ pub sample-rows : answers initial (records ++ map recordOf rows) ≡ expected ++
 unfolding computed
 sample-rows = refl
 
--- The greatest number of each table, in each field that names one, after the sample.
-pub sample-last-target : answers initial (records ++ map recordOf lastTarget) ≡ expected ++ map answerOf lastTarget
+-- From the founding: the greatest number of each table, in each field that names one.
+pub last-target : answers initial (map recordOf lastTarget) ≡ map answerOf lastTarget
 unfolding computed
-sample-last-target = refl
+last-target = refl
 
-pub sample-last-group : answers initial (records ++ map recordOf lastGroup) ≡ expected ++ map answerOf lastGroup
+pub last-group : answers initial (map recordOf lastGroup) ≡ map answerOf lastGroup
 unfolding computed
-sample-last-group = refl
+last-group = refl
 
-pub sample-last-user : answers initial (records ++ map recordOf lastUser) ≡ expected ++ map answerOf lastUser
+pub last-user : answers initial (map recordOf lastUser) ≡ map answerOf lastUser
 unfolding computed
-sample-last-user = refl
+last-user = refl
 
--- Own gain before hand-over, after the sample.
-pub sample-gain-first : answers initial (records ++ map recordOf gainFirst) ≡ expected ++ map answerOf gainFirst
+-- Own gain before hand-over.
+pub gain-first : answers initial (map recordOf gainFirst) ≡ map answerOf gainFirst
 unfolding computed
-sample-gain-first = refl
+gain-first = refl

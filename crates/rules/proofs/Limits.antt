@@ -110,7 +110,8 @@ limits (Withdraw i) = most 63 i
 limits (Use x k) = passes-or _ _ (most 63 x) (most 7 k)
 
 -- What follows from every number of a list being within its limits fails with any one that is not.
-each-needed : (t : Bool) (ls : List⁺ Limit) → (t ≡ false → Each⁺ Within ls) → Each⁺ (λ (l : Limit). (Within l → ⊥) → t ≡ true) ls
+each-needed : (t : Bool) (ls : List⁺ Limit) → (t ≡ false → Each⁺ Within ls)
+    → Each⁺ (λ (l : Limit). (Within l → ⊥) → t ≡ true) ls
 each-needed true (one l) f = λ n. refl
 each-needed false (one l) f = λ n. absurd (n (f refl))
 each-needed true (l ∷⁺ ls) f = (λ n. refl, each-needed true ls (λ e. f e .1))
