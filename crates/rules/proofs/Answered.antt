@@ -18,7 +18,8 @@ use Rattle.rules.specs.Refusals.{torn, unknown, misfit, stranger, offThe
 use Rattle.rules.specs.Refusals.{handOver, orphan}
 use Rattle.rules.specs.Judging.{done, verdictOn, verdict, judge, answers}
 use Rattle.rules.specs.Sample.{records, expected, further, furtherExpected}
-use Rattle.rules.specs.Trials.{recordOf, answerOf, traps, rows, lastTarget, lastGroup, lastUser, gainFirst}
+use Rattle.rules.specs.Trials.{recordOf, answerOf, traps, rows}
+use Rattle.rules.specs.Edges.{lastTarget, lastGroup, lastUser, gainFirst}
 
 -- The answers with every rule open: what is to compute opens this one.
 unfoldable pub computed : Policy → List (List ℕ) → List (ℕ × ℕ)

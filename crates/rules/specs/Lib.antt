@@ -10,4 +10,5 @@ pub mod Judging
 pub mod Allowing
 pub mod Sample
 pub mod Trials
+pub mod Edges
 pub mod Cleared
