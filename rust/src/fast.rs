@@ -225,9 +225,10 @@ fn withdraw(view: View, place: u8) -> Verdict {
     refuse_if(place > 63, 5)?;
     let Rule { mark, u, t, .. } = view.sheet.rules[at(place)];
     refuse_if(!mark, 6)?;
-    refuse_if(!view.in_use(u) || !view.in_use(t), 9)?;
     let [over_u, over_t] = view.over([u, t]);
-    refuse_if(!view.administers(over_u, over_t), 9)?;
+    // Document 02, Job 1: "a member who administers (U, T) or who owns T".
+    let may = view.administers(over_u, over_t) || view.held_a(OWNER) & over_t != 0;
+    refuse_if(!may, 9)?;
     let rule = Rule::default();
     Ok(Change::SetRule { place, rule })
 }

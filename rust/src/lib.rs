@@ -1,5 +1,5 @@
-//! The sharing board, written a second time from document 01 alone, and held against the
-//! proved board byte for byte. Three judges: `plain` follows the text sentence by sentence;
+//! The sharing board, written a second time from documents 01 and 02 alone, and held against
+//! the proved board byte for byte. Three judges: `plain` follows the text sentence by sentence;
 //! `sets` is made for speed on 64-bit sets, and works its closure anew for each record; `fast`
 //! works no closure, but searches with wide registers for just what a record needs. `board` is
 //! the proved one.

@@ -1,5 +1,6 @@
-//! The judge in the plainest way: document 01 sentence by sentence, with loops over objects,
-//! members and operations, and holdings compared before and after. Speed is no concern here.
+//! The judge in the plainest way: document 01, and Job 1 of document 02, sentence by sentence,
+//! with loops over objects, members and operations, and holdings compared before and after.
+//! Speed is no concern here.
 
 mod holdings;
 mod record;
@@ -194,11 +195,13 @@ fn has_authority(before: &Holdings, sender: u8, request: Request) -> bool {
             let w = before.sheet.warrants[place as usize];
             may_set_warrant(before, sender, w.kind, w.a, w.b)
         }
-        // "GRANT, WITHDRAW: administers (U, T) by one warrant."
+        // "GRANT, WITHDRAW: administers (U, T) by one warrant." Job 1: "GRANT keeps its
+        // condition."
         Grant { u, t, .. } => before.administers(sender, u, t),
+        // Job 1: "WITHDRAW is accepted from a member who administers (U, T) or who owns T."
         Withdraw { place } => {
             let r = before.sheet.rules[place as usize];
-            before.administers(sender, r.u, r.t)
+            before.administers(sender, r.u, r.t) || before.owns(sender, r.t)
         }
         // "USE: is permitted."
         Use { gear, operation } => before.permitted(sender, operation, gear),

@@ -209,7 +209,10 @@ fn withdraw(sheet: &mut Sheet, sender: u8, place: u8) -> Verdict {
     let before = Holdings::on(sheet);
     let Rule { mark, u, t, .. } = sheet.rules[at(place)];
     refuse_if(!mark, 6)?;
-    refuse_if(!before.administers(sender, u, t), 9)?;
+    // Document 02, Job 1: "a member who administers (U, T) or who owns T".
+    let (owned, _) = before.owned_and_managed(sender);
+    let may = before.administers(sender, u, t) || has(owned, t);
+    refuse_if(!may, 9)?;
 
     sheet.rules[at(place)] = Rule::default();
     Ok(NO_RULE)

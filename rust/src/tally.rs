@@ -1,5 +1,9 @@
 //! What came in a test: how often each pair of kind and code, and how far the sheets grew.
 
+mod withdrawals;
+
+pub use withdrawals::Withdrawals;
+
 use crate::sheet::Sheet;
 use std::fmt::{self, Display, Formatter};
 

@@ -7,7 +7,7 @@ use beside::compare::{self, shortest};
 use beside::fast;
 use beside::generate::{self, Profile, Rng, CODES};
 use beside::sheet::Sheet;
-use beside::tally::{Counts, Shapes};
+use beside::tally::{Counts, Shapes, Withdrawals};
 
 const STREAMS_PER_PROFILE: usize = 40;
 const RECORDS_PER_STREAM: usize = 1000;
@@ -15,6 +15,9 @@ const RECORDS_PER_STREAM: usize = 1000;
 /// How often at least each pair of kind and code that can come has to come.
 const PAIR_ON_STREAMS: usize = 200;
 const PAIR_ON_SHEETS: usize = 50;
+
+/// How often at least a WITHDRAW has to come from each sender and on each rule of `Withdrawals`.
+const WITHDRAWAL_ON_SHEETS: usize = 20;
 
 /// All the streams of the tests, the same on every run.
 fn streams() -> impl Iterator<Item = Vec<Vec<u8>>> {
@@ -123,6 +126,7 @@ fn they_agree_on_spoilt_streams() {
 fn they_agree_on_single_requests() {
     let mut rng = Rng::new(77);
     let mut counts = Counts::default();
+    let mut withdrawals = Withdrawals::default();
     for _ in 0..30_000 {
         let picture = generate::picture(&mut rng);
         let sheet = Sheet::from_picture(&picture);
@@ -130,10 +134,16 @@ fn they_agree_on_single_requests() {
             let record = generate::request(&mut rng, &sheet);
             let answer = agreed(compare::single(&picture, &record));
             counts.add(&record, answer.code);
+            withdrawals.add(&sheet, &record, answer.code);
         }
     }
     println!("{} single requests\n{counts}", counts.total());
+    println!("{withdrawals:?}");
     assert!(counts.total() >= 100_000);
+    assert!(
+        withdrawals.least() >= WITHDRAWAL_ON_SHEETS,
+        "{withdrawals:?}"
+    );
     for kind in 0..=8 {
         for code in 0..=12 {
             let can = match kind {

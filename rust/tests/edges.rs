@@ -57,7 +57,7 @@ fn sample() -> Vec<Vec<u8>> {
 }
 
 const SAMPLE_LINES: &str = "0 0 255 / 1 0 255 / 2 0 255 / 3 0 255 / 4 0 255 / 5 0 255 / 6 0 255 / \
-    7 0 255 / 8 0 255 / 9 0 0 / 10 9 255 / 11 0 255 / 12 0 0 / 13 10 255 / 14 12 255 / 15 9 255";
+    7 0 255 / 8 0 255 / 9 0 0 / 10 9 255 / 11 0 255 / 12 0 0 / 13 10 255 / 14 12 255 / 15 0 255";
 
 /// The first lines of the sample's text.
 fn sample_text(count: usize) -> String {

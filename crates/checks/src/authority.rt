@@ -2,7 +2,7 @@
 ghost use mathlib.Core.Path.{_≡_};
 ghost use mathlib.Core.Bool.{_&&_};
 ghost use Rattle.reach.specs.Surveys.{Whose};
-ghost use Rattle.rules.specs.Authority.{governs, mayAppoint};
+ghost use Rattle.rules.specs.Authority.{governs, mayAppoint, mayWithdraw};
 ghost use Rattle.rules.specs.Refusals.{noAuthority};
 ghost use Rattle.forms.specs.Naming.{Named};
 ghost use Rattle.checks.specs.Permitting.{permittingRule, found};
@@ -93,6 +93,23 @@ fn may_appoint(
     has(held(members, m, appointments, 1, u), w.a)
 }
 
+// Whether u may withdraw this rule.
+fn may_withdraw(
+    members: &[u64; 64],
+    m: Masks,
+    appointments: [Appointment; 32],
+    u: u8,
+    rule: AccessRule,
+) -> bool
+    ensures { λ r. ⌜ Whose (now (members .entry)) m (λ p. p .appointments ≡ appointments → r ≡ mayWithdraw p u rule) ⌝ }
+{
+    let administers = administered(members, m, appointments, u, rule.users);
+    if has(administers, rule.targets) {
+        return true;
+    }
+    has(held(members, m, appointments, 1, u), rule.targets)
+}
+
 // Check 9.
 pub fn no_authority(
     members: &[u64; 64],
@@ -128,10 +145,7 @@ pub fn no_authority(
             targets,
             operations,
         } => !has(administered(members, m, appointments, u, users), targets),
-        Request::Withdraw { place } => !has(
-            administered(members, m, appointments, u, rule.users),
-            rule.targets,
-        ),
+        Request::Withdraw { place } => !may_withdraw(members, m, appointments, u, rule),
         Request::Use { target, operation } => !permits(by),
     }
 }

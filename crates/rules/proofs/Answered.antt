@@ -1,8 +1,9 @@
 -- Document 01's sample, of the rules themselves: judged from the founding, the sixteen records give the sixteen lines; so do those after
--- them, and the records that walk through the traps, the rows and the limits. By computation.
+-- them, and the records that walk through the traps, who may withdraw, the rows and the limits. By computation.
 use mathlib.Core.Path.{_≡_, refl}
 use mathlib.Core.List.{List, _++_, map}
 use Prim.Native.Nat.{ℕ}
+use lib.ListN.{take}
 use Rattle.reach.specs.declared.Policy.{Policy}
 use Rattle.reach.specs.Words.{bit, has}
 use Rattle.reach.specs.Tests.{some, lowestOr}
@@ -11,21 +12,21 @@ use Rattle.reach.specs.Reach.{inUse, direct, chain, under}
 use Rattle.reach.specs.Privileges.{holdsBy, holds, administersBy, administers, permitsBy, askable, permitted, permitting, orphaned}
 use Rattle.reach.specs.Successors.{withBit, withoutBit, made, put, taken, appointed, ruled}
 use Rattle.rules.specs.Records.{lengthOf, request}
-use Rattle.rules.specs.Authority.{mayAppoint, may}
+use Rattle.rules.specs.Authority.{mayAppoint, mayWithdraw, may}
 use Rattle.rules.specs.Doing.{after}
 use Rattle.rules.specs.Gains.{gives, handsOver}
 use Rattle.rules.specs.Refusals.{torn, unknown, misfit, stranger, offTheSheet, absent, wrongSort, alreadySo, noAuthority, ownGain}
 use Rattle.rules.specs.Refusals.{handOver, orphan}
 use Rattle.rules.specs.Judging.{done, verdictOn, verdict, judge, answers}
 use Rattle.rules.specs.Sample.{records, expected, further, furtherExpected}
-use Rattle.rules.specs.Trials.{recordOf, answerOf, traps, rows}
+use Rattle.rules.specs.Trials.{Trial, recordOf, answerOf, traps, withdrawing, rows}
 use Rattle.rules.specs.Edges.{lastTarget, lastGroup, lastUser, gainFirst}
 
 -- The answers with every rule open: what is to compute opens this one.
 unfoldable pub computed : Policy → List (List ℕ) → List (ℕ × ℕ)
 unfolding bit has some lowestOr counted sort stored appointment standing rule inUse direct chain under holdsBy holds
     administersBy administers permitsBy askable permitted permitting orphaned withBit withoutBit made put taken appointed ruled
-    initial lengthOf request mayAppoint may after gives handsOver torn unknown misfit stranger offTheSheet absent wrongSort
+    initial lengthOf request mayAppoint mayWithdraw may after gives handsOver torn unknown misfit stranger offTheSheet absent wrongSort
     alreadySo noAuthority ownGain handOver orphan done verdictOn verdict judge answers
 computed p bs = answers p bs
 
@@ -39,30 +40,39 @@ pub sample-further : answers initial (records ++ further) ≡ expected ++ furthe
 unfolding computed
 sample-further = refl
 
--- The traps, after the sample.
-pub sample-traps : answers initial (records ++ map recordOf traps) ≡ expected ++ map answerOf traps
+-- After the first n records of the sample the trials are answered as they are to be.
+abbrev Tried : ℕ → List Trial → Type 0
+Tried n l = answers initial (take n records ++ map recordOf l) ≡ take n expected ++ map answerOf l
+
+-- The traps.
+pub sample-traps : Tried 15 traps
 unfolding computed
 sample-traps = refl
 
--- The rows of the table of refusals, after the sample.
-pub sample-rows : answers initial (records ++ map recordOf rows) ≡ expected ++ map answerOf rows
+-- Who may withdraw, and grant.
+pub sample-withdrawing : Tried 15 withdrawing
+unfolding computed
+sample-withdrawing = refl
+
+-- The rows of the table of refusals.
+pub sample-rows : Tried 15 rows
 unfolding computed
 sample-rows = refl
 
 -- From the founding: the greatest number of each table, in each field that names one.
-pub last-target : answers initial (map recordOf lastTarget) ≡ map answerOf lastTarget
+pub last-target : Tried 0 lastTarget
 unfolding computed
 last-target = refl
 
-pub last-group : answers initial (map recordOf lastGroup) ≡ map answerOf lastGroup
+pub last-group : Tried 0 lastGroup
 unfolding computed
 last-group = refl
 
-pub last-user : answers initial (map recordOf lastUser) ≡ map answerOf lastUser
+pub last-user : Tried 0 lastUser
 unfolding computed
 last-user = refl
 
 -- Own gain before hand-over.
-pub gain-first : answers initial (map recordOf gainFirst) ≡ map answerOf gainFirst
+pub gain-first : Tried 0 gainFirst
 unfolding computed
 gain-first = refl

@@ -10,6 +10,7 @@ use lib.ListN.{length}
 use Rattle.frame.specs.Fields.{lengthField, kindField}
 use Rattle.reach.specs.declared.Policy.{Policy}
 use Rattle.reach.specs.declared.Appointment.{Appointment}
+use Rattle.reach.specs.declared.AccessRule.{AccessRule}
 use Rattle.reach.specs.Tests.{_⇒_∥_, Decides}
 use Rattle.reach.specs.Tables.{sort, stored, appointment, rule, view}
 use Rattle.reach.specs.Reach.{InUse, Group, User, Direct, isGroup}
@@ -20,10 +21,10 @@ use Rattle.reach.proofs.Deciding.{standing-decides, decides-user, user-below, h
 use Rattle.rules.specs.declared.Request.{Request}
 use Rattle.rules.specs.declared.Request.the-variants.{Make, Put, Take, Appoint, Dismiss, Grant, Withdraw, Use}
 use Rattle.rules.specs.Records.{lengthOf}
-use Rattle.rules.specs.Authority.{governs, mayAppoint, may}
+use Rattle.rules.specs.Authority.{governs, mayAppoint, mayWithdraw, may}
 use Rattle.rules.specs.Refusals.{torn, unknown, misfit, stranger, oneToThree, offTheSheet, empty, absent, wrongSort, alreadySo}
 use Rattle.rules.specs.Refusals.{noAuthority}
-use Rattle.rules.specs.Allowing.{WellFormed, Governs, MayAppoint, as-owner, as-manager, Authority, Fits}
+use Rattle.rules.specs.Allowing.{WellFormed, Governs, MayAppoint, as-owner, as-manager, MayWithdraw, Authority, Fits}
 use Rattle.rules.proofs.Passing.{Passes, passes-as, passes-all, passes-or, passes-not, passes-of, passes-ltb, passes-where}
 use Rattle.rules.proofs.Passing.{passes-either, decides-leb}
 
@@ -218,6 +219,10 @@ module _ (p : Policy) (u : ℕ) where
           owned n (as-owner m o) = o
           owned n (as-manager e a b) = absurd (n e)
 
+  may-withdraw-decides : (r : AccessRule) → Decides (mayWithdraw p u r) (MayWithdraw (view p) u r)
+  unfolding mayWithdraw
+  may-withdraw-decides r = decides-or _ _ (administers-decides p u (r .users) (r .targets)) (holds-decides p owner u (r .targets))
+
   may-decides : (q : Request) → Decides (may p u q) (Authority (view p) u q)
   unfolding may
   may-decides (Make i s g) = governs-decides g
@@ -226,7 +231,7 @@ module _ (p : Policy) (u : ℕ) where
   may-decides (Appoint i k h a b) = may-appoint-decides (record { kind = k; holder = h; a = a; b = b })
   may-decides (Dismiss i) = may-appoint-decides (appointment p i)
   may-decides (Grant i v t o) = administers-decides p u v t
-  may-decides (Withdraw i) = administers-decides p u (rule p i .users) (rule p i .targets)
+  may-decides (Withdraw i) = may-withdraw-decides (rule p i)
   may-decides (Use x k) = permitted-decides p u k x
 
   pub authorised : (q : Request) → Passes (noAuthority p u q) (Authority (view p) u q)

@@ -1,6 +1,7 @@
--- Two readings of the refusal table that follow from it (D23): when APPOINT is own gain, and that a hand-over is of what the sender does
--- not own. From what APPOINT and PUT change of reach and privileges.
+-- Readings of the rules that follow from them: when APPOINT is own gain, and that a hand-over is of what the sender does not own (D23), from
+-- what APPOINT and PUT change of reach and privileges; and what a stored U or T that names nothing is to WITHDRAW (D17).
 use mathlib.Core.Path.{_≡_, sym, subst}
+use mathlib.Core.Bool.{true}
 use mathlib.Core.Logic.{_⊎_, inl, inr, ⊎-elim}
 use Prim.Native.Nat.{ℕ, _<_}
 use native.Mathlib.Omega.{arith}
@@ -10,11 +11,12 @@ use Rattle.reach.specs.Reach.{InUse, Group, User, Under, itself}
 use Rattle.reach.specs.Privileges.{owner, manager, administrator, Holds, Owns, Manages, Administers}
 use Rattle.reach.specs.Changes.{viewPut, viewAppointed}
 use Rattle.reach.proofs.Testing.{some-map}
-use Rattle.reach.proofs.Reaching.{under-trans}
+use Rattle.reach.proofs.Reaching.{under-lower, under-trans}
 use Rattle.reach.proofs.Frames.{put-adds-only, under-appointed-back}
 use Rattle.reach.proofs.Appointing.{holds-appointed, administers-appointed, holds-new, administers-new}
+use Rattle.rules.specs.declared.Request.the-variants.{Withdraw}
 use Rattle.rules.specs.Allowing.{Privilege, owning, managing, administering, permission, Has, Gives, HandsOver, MayAppoint, as-owner}
-use Rattle.rules.specs.Allowing.{as-manager}
+use Rattle.rules.specs.Allowing.{as-manager, Allowed}
 
 -- Who holds a group holds what is under it.
 holds-under : {v : View} {kind u x y : ℕ} → Under v x y → Holds v kind u y → Holds v kind u x
@@ -161,3 +163,13 @@ hand-over-not-owned v u x g h o = ⊎-elim (λ z. go (z .0) (z .1)) (λ z. go (z
         }))
         (λ l. h .not-own (holds-under (l .0) o))
         (put-adds-only v x g (b .covers))
+
+-- ---- WITHDRAW
+
+-- Who owns T withdraws the rule whatever its U is: a number past the table, an empty object.
+pub owner-withdraws : (v : View) (u i : ℕ) → i < 64 → v .rule i .used ≡ true → Owns v u (v .rule i .targets) → Allowed v u (Withdraw i)
+owner-withdraws v u i l s o = record { known = o .user; fits = (l, s); authority = inr o; clean = tt }
+
+-- A T that is past the table or empty is nobody's, so nobody withdraws the rule.
+pub nobody-withdraws : (v : View) (u i : ℕ) → (InUse v (v .rule i .targets) → ⊥) → Allowed v u (Withdraw i) → ⊥
+nobody-withdraws v u i n a = ⊎-elim (λ m. n (under-lower (m .by .at .covers-b))) (λ o. n (under-lower (o .by .at .covers))) (a .authority)

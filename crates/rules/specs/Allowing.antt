@@ -80,6 +80,10 @@ pub data MayAppoint (v : View) (u : ℕ) (w : Appointment) : Type 0 where
   as-owner : (w .kind ≡ administrator → ⊥) → Owns v u (w .a) → MayAppoint v u w
   as-manager : w .kind ≡ administrator → Manages v u (w .a) → Manages v u (w .b) → MayAppoint v u w
 
+-- [02:1.2] He administers (U, T), or owns T.
+abbrev pub MayWithdraw : View → ℕ → AccessRule → Type 0
+MayWithdraw v u r = Administers v u (r .users) (r .targets) ⊎ Owns v u (r .targets)
+
 abbrev pub Authority : View → ℕ → Request → Type 0
 Authority v u (Make i s g) = Governs v u g
 Authority v u (Put x g) = Governs v u x × Governs v u g
@@ -87,7 +91,7 @@ Authority v u (Take x g) = Governs v u x × Governs v u g
 Authority v u (Appoint i k h a b) = MayAppoint v u (record { kind = k; holder = h; a = a; b = b })
 Authority v u (Dismiss i) = MayAppoint v u (v .appointment i)
 Authority v u (Grant i w t o) = Administers v u w t
-Authority v u (Withdraw i) = Administers v u (v .rule i .users) (v .rule i .targets)
+Authority v u (Withdraw i) = MayWithdraw v u (v .rule i)
 Authority v u (Use x k) = Permitted v u k x
 
 -- ---- What the fields must be (checks 5 to 8)

@@ -56,9 +56,10 @@ records =
     WITHDRAW 1 0 ∷
     []
 
+-- [01:runner.14] Its lines. [02:1.3] "The last sample line becomes `15 0 255`."
 abbrev pub expected : List (ℕ × ℕ)
 expected =
-    ok ∷ ok ∷ ok ∷ ok ∷ ok ∷ ok ∷ ok ∷ ok ∷ ok ∷ (0, 0) ∷ no 9 ∷ ok ∷ (0, 0) ∷ no 10 ∷ no 12 ∷ no 9 ∷ []
+    ok ∷ ok ∷ ok ∷ ok ∷ ok ∷ ok ∷ ok ∷ ok ∷ ok ∷ (0, 0) ∷ no 9 ∷ ok ∷ (0, 0) ∷ no 10 ∷ no 12 ∷ ok ∷ []
 
 -- [01:runner.15] "Then: .."
 abbrev pub further : List (List ℕ)

@@ -1,4 +1,5 @@
--- Records that go through the traps, and through the rows of the refusal table, after the sample: each with the answer that it is to get.
+-- Records that go through the traps, through who may withdraw, and through the rows of the refusal table, each with the answer that it is to
+-- get. They come after the first fifteen records of the sample: the sixteenth withdraws the rule.
 use mathlib.Core.List.{List, [], _∷_}
 use Prim.Native.Nat.{ℕ}
 use Rattle.rules.specs.Sample.{MAKE, PUT, TAKE, APPOINT, DISMISS, GRANT, WITHDRAW, USE, ok, no}
@@ -42,6 +43,34 @@ traps =
     -- A circle of two groups.
     (PUT 1 4 8, ok) ∷
     (USE 9 6 2, (0, 0)) ∷
+    []
+
+-- [02:1.2] "WITHDRAW is accepted from a member who administers (U, T) or who owns T." [02:1.4] "GRANT keeps its condition."
+abbrev pub withdrawing : List Trial
+withdrawing =
+    -- A manager of T may not, nor who is permitted by the rule, nor an owner of a group inside T.
+    (WITHDRAW 2 0, no 9) ∷
+    (WITHDRAW 7 0, no 9) ∷
+    (MAKE 1 8 1 5, ok) ∷
+    (APPOINT 1 3 1 7 8 0, ok) ∷
+    (WITHDRAW 7 0, no 9) ∷
+    -- An owner of U may not, and grants nothing by it.
+    (APPOINT 1 4 1 2 4 0, ok) ∷
+    (WITHDRAW 2 0, no 9) ∷
+    (GRANT 2 1 4 5 1, no 9) ∷
+    -- An owner of T may, and grants nothing by it; nor does an owner of both.
+    (APPOINT 1 5 1 7 5 0, ok) ∷
+    (GRANT 7 1 4 5 1, no 9) ∷
+    (WITHDRAW 7 0, ok) ∷
+    (USE 7 6 2, no 9) ∷
+    (GRANT 1 0 4 5 6, no 9) ∷
+    -- An administrator who owns nothing may.
+    (MAKE 1 9 2 0, ok) ∷
+    (APPOINT 2 6 3 9 4 5, ok) ∷
+    (GRANT 9 0 4 5 6, ok) ∷
+    (USE 7 6 2, (0, 0)) ∷
+    (WITHDRAW 9 0, ok) ∷
+    (USE 7 6 2, no 9) ∷
     []
 
 -- Rows 1 to 10 of the table of refusals, most of them tried where a later row would apply too, and the requests that undo, done.

@@ -3,7 +3,7 @@
 
 use crate::sheet::*;
 use crate::wide;
-use crate::words::{at, bit, each, has, refuse_if};
+use crate::words::{all_if, at, bit, each, has, refuse_if};
 
 /// A sheet, the sender, and the objects in use as sets: of each sort, and all.
 #[derive(Clone, Copy)]
@@ -63,10 +63,11 @@ impl<'a> View<'a> {
         refuse_if(!self.is(group, GROUP), 7)
     }
 
-    /// For each of these objects in use, all that it is under.
+    /// For each of these numbers, all that it is under. What isn't in use is under nothing.
     #[inline(always)]
-    pub fn over<const N: usize>(&self, objects: [u8; N]) -> [u64; N] {
-        wide::over(&self.sheet.members, self.groups, objects.map(bit))
+    pub fn over<const N: usize>(&self, numbers: [u8; N]) -> [u64; N] {
+        let starts = numbers.map(|x| bit(x) & all_if(self.in_use(x)));
+        wide::over(&self.sheet.members, self.groups, starts)
     }
 
     /// All that is under some object in use of `from`, level by level, with each row as `row`

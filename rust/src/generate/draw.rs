@@ -251,7 +251,7 @@ impl<'a> Draw<'a> {
 
     fn withdraw(&mut self) -> Vec<u8> {
         let place = self.rule_place(true);
-        vec![self.sender(&[ADMINISTRATOR]), place]
+        vec![self.sender(&[ADMINISTRATOR, OWNER]), place]
     }
 
     fn using(&mut self) -> Vec<u8> {

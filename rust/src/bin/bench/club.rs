@@ -146,15 +146,15 @@ pub const NAMES: [&str; 8] = [
     "MAKE", "PUT", "TAKE", "APPOINT", "DISMISS", "GRANT", "WITHDRAW", "USE",
 ];
 
-/// For one kind a record that is done, and the same from one who has no authority for it.
+/// A record that is done, and the same from one who has no authority for it.
 pub struct Request {
     pub name: &'static str,
     pub done: Vec<u8>,
     pub refused: Vec<u8>,
 }
 
-/// A request of each kind, for a club of this size.
-pub fn requests(size: Size) -> [Request; 8] {
+/// A request of each kind, and a WITHDRAW by an owner, for a club of this size.
+pub fn requests(size: Size) -> [Request; 9] {
     let object = size.objects as u8;
     let warrant = size.warrants as u8;
     let rule = size.rules as u8;
@@ -176,6 +176,10 @@ pub fn requests(size: Size) -> [Request; 8] {
         request(6, RUNNER, &[rule, USERS, TARGETS, 6]),
         request(7, RUNNER, &[rule - 1]),
         request(8, LISTENER, &[RADIO, LAST_OPERATION]),
+        Request {
+            name: "WITHDRAW by an owner",
+            ..request(7, FOUNDER, &[rule - 1])
+        },
     ]
 }
 

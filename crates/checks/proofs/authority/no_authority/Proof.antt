@@ -1,4 +1,4 @@
--- Check 9, kind by kind: what the sender governs, may appoint or administers, and the rule that permits him.
+-- Check 9, kind by kind: what the sender governs, may appoint, administers or may withdraw, and the rule that permits him.
 use Rattle.reach.proofs.WordSets.{has-is}
 use Rattle.reach.proofs.Deciding.{administers-decides}
 use Rattle.rules.specs.Authority.{may}
@@ -49,10 +49,9 @@ returns-7 : tie.Need-returns-7
 unfolding noAuthority may
 returns-7 c =
     λ p l e n f. rw (
-      c .before .before .before .q7 .given .1,
-      c .has3 .ensures,
-      has-is (c .before .administered2 .ensures p l e) _ _ (administers-decides p _ _ _),
-      named-by-withdraw (c .before .before .before .q7 .given .1) n,
+      c .before .before .q7 .given .1,
+      c .may-withdraw .ensures p l e,
+      named-by-withdraw (c .before .before .q7 .given .1) n,
     )
 
 returns-8 : tie.Need-returns-8
@@ -78,7 +77,6 @@ no-authority-spec =
     (λ c κs. search needs)
     (λ c κs. search needs)
     (λ c. search needs)
-    (λ c κs. search needs)
     (λ c κs. search needs)
     (λ c. search needs)
     (λ c κs. search needs)
