@@ -225,8 +225,8 @@ fn withdraw(view: View, place: u8) -> Verdict {
     refuse_if(place > 63, 5)?;
     let Rule { mark, u, t, .. } = view.sheet.rules[at(place)];
     refuse_if(!mark, 6)?;
-    let [over_u, over_t] = view.over([u, t]);
-    // Document 02, Job 1: "a member who administers (U, T) or who owns T".
+    let [over_u, over_t] = view.over_stored([u, t]);
+    // Job 1: "WITHDRAW is accepted from a member who administers (U, T) or who owns T."
     let may = view.administers(over_u, over_t) || view.held_a(OWNER) & over_t != 0;
     refuse_if(!may, 9)?;
     let rule = Rule::default();

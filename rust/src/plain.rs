@@ -195,8 +195,8 @@ fn has_authority(before: &Holdings, sender: u8, request: Request) -> bool {
             let w = before.sheet.warrants[place as usize];
             may_set_warrant(before, sender, w.kind, w.a, w.b)
         }
-        // "GRANT, WITHDRAW: administers (U, T) by one warrant." Job 1: "GRANT keeps its
-        // condition."
+        // "GRANT, WITHDRAW: administers (U, T) by one warrant." Document 02, Job 1: "GRANT keeps
+        // its condition."
         Grant { u, t, .. } => before.administers(sender, u, t),
         // Job 1: "WITHDRAW is accepted from a member who administers (U, T) or who owns T."
         Withdraw { place } => {

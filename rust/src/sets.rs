@@ -209,7 +209,7 @@ fn withdraw(sheet: &mut Sheet, sender: u8, place: u8) -> Verdict {
     let before = Holdings::on(sheet);
     let Rule { mark, u, t, .. } = sheet.rules[at(place)];
     refuse_if(!mark, 6)?;
-    // Document 02, Job 1: "a member who administers (U, T) or who owns T".
+    // Job 1: "WITHDRAW is accepted from a member who administers (U, T) or who owns T."
     let (owned, _) = before.owned_and_managed(sender);
     let may = before.administers(sender, u, t) || has(owned, t);
     refuse_if(!may, 9)?;

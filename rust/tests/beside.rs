@@ -161,7 +161,7 @@ fn they_agree_on_single_requests() {
 fn sheets_have_junk_in_every_field() {
     let mut rng = Rng::new(78);
     let mut outside = [0; 8];
-    for _ in 0..2000 {
+    for _ in 0..3000 {
         let picture = generate::picture(&mut rng);
         let sheet = Sheet::from_picture(&picture);
         let in_use = |w: &&beside::sheet::Warrant| (1..=3).contains(&w.kind);

@@ -63,11 +63,18 @@ impl<'a> View<'a> {
         refuse_if(!self.is(group, GROUP), 7)
     }
 
-    /// For each of these numbers, all that it is under. What isn't in use is under nothing.
+    /// For each of these objects in use, all that it is under.
     #[inline(always)]
-    pub fn over<const N: usize>(&self, numbers: [u8; N]) -> [u64; N] {
-        let starts = numbers.map(|x| bit(x) & all_if(self.in_use(x)));
-        wide::over(&self.sheet.members, self.groups, starts)
+    pub fn over<const N: usize>(&self, objects: [u8; N]) -> [u64; N] {
+        wide::over(&self.sheet.members, self.groups, objects.map(bit))
+    }
+
+    /// For each of these stored numbers, all that it is under. What isn't in use is under
+    /// nothing.
+    #[inline(always)]
+    pub fn over_stored<const N: usize>(&self, numbers: [u8; N]) -> [u64; N] {
+        let start = |x| bit(x) & all_if(self.in_use(x));
+        wide::over(&self.sheet.members, self.groups, numbers.map(start))
     }
 
     /// All that is under some object in use of `from`, level by level, with each row as `row`
