@@ -41,38 +41,38 @@ unfolding computed
 sample-further = refl
 
 -- After the first n records of the sample the trials are answered as they are to be.
-abbrev Tried : ℕ → List Trial → Type 0
-Tried n l = answers initial (take n records ++ map recordOf l) ≡ take n expected ++ map answerOf l
+abbrev AnsweredAfter : ℕ → List Trial → Type 0
+AnsweredAfter n l = answers initial (take n records ++ map recordOf l) ≡ take n expected ++ map answerOf l
 
 -- The traps.
-pub sample-traps : Tried 15 traps
+pub sample-traps : AnsweredAfter 15 traps
 unfolding computed
 sample-traps = refl
 
 -- Who may withdraw, and grant.
-pub sample-withdrawing : Tried 15 withdrawing
+pub sample-withdrawing : AnsweredAfter 15 withdrawing
 unfolding computed
 sample-withdrawing = refl
 
 -- The rows of the table of refusals.
-pub sample-rows : Tried 15 rows
+pub sample-rows : AnsweredAfter 15 rows
 unfolding computed
 sample-rows = refl
 
 -- From the founding: the greatest number of each table, in each field that names one.
-pub last-target : Tried 0 lastTarget
+pub last-target : AnsweredAfter 0 lastTarget
 unfolding computed
 last-target = refl
 
-pub last-group : Tried 0 lastGroup
+pub last-group : AnsweredAfter 0 lastGroup
 unfolding computed
 last-group = refl
 
-pub last-user : Tried 0 lastUser
+pub last-user : AnsweredAfter 0 lastUser
 unfolding computed
 last-user = refl
 
 -- Own gain before hand-over.
-pub gain-first : Tried 0 gainFirst
+pub gain-first : AnsweredAfter 0 gainFirst
 unfolding computed
 gain-first = refl
