@@ -60,13 +60,13 @@ pub initial-stored : view initial .stored 1 0 ≡ true
 unfolding initial stored has bit
 initial-stored = refl
 
-only : (x g : ℕ) → view initial .stored x g ≡ true → (x ≡ 1) × (g ≡ 0)
+pub initial-stored-only : (x g : ℕ) → view initial .stored x g ≡ true → (x ≡ 1) × (g ≡ 0)
 unfolding initial stored has
-only x zero e = (bit-one-only 1 x (eqb-true _ _ e), refl)
-only x (suc g) e = absurd (bit-none x (ap (λ (w : ℕ). bit w x) (sym (repeated {A = ℕ} 0 63 g)) ∙ eqb-true _ _ e))
+initial-stored-only x zero e = (bit-one-only 1 x (eqb-true _ _ e), refl)
+initial-stored-only x (suc g) e = absurd (bit-none x (ap (λ (w : ℕ). bit w x) (sym (repeated {A = ℕ} 0 63 g)) ∙ eqb-true _ _ e))
 
 pub initial-direct : (x g : ℕ) → Direct (view initial) x g → (x ≡ 1) × (g ≡ 0)
-initial-direct x g d = only x g (d .is-stored)
+initial-direct x g d = initial-stored-only x g (d .is-stored)
 
 first : view initial .appointment 0 ≡ record { kind = owner; holder = 1; a = 0; b = 0 }
 unfolding initial appointment
