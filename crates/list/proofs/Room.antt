@@ -37,20 +37,24 @@ answers-length : (p : Policy) (bs : List Bytes) → length (answers p bs) ≡ le
 answers-length p [] = rw (answers-none p)
 answers-length p (b ∷ bs) = rw (answers-next p b bs, answers-length (judge p b .policy) bs)
 
--- The report of an input within the limit.
-pub report-fits : (input : Bytes) → length input ≤ 65536 → length (report input) ≤ 212992
-unfolding report answersFrom
-report-fits input h = go (tornFrom input 0) (records-few input 0 zero-le)
+-- The lines for an input within the limit, from any start.
+pub lines-from-fit : (p : Policy) (input : Bytes) → length input ≤ 65536 → length (lines 0 (answersFrom p input 0)) ≤ 212992
+unfolding answersFrom
+lines-from-fit p input h = go (tornFrom input 0) (records-few input 0 zero-le)
   where
     records : List Bytes
     records = recordsFrom input 0
 
     go : (torn : Bool) → 0 + 4 * length records + cond torn 1 0 ≤ length input
-        → length (lines 0 (answers initial records ++ (torn ⇒ tornPlace ∷ [] ∥ []))) ≤ 212992
-    go true few = torn-lines-fit (answers initial records) (answers-bounded initial records) (omega (arith, answers-length initial records))
+        → length (lines 0 (answers p records ++ (torn ⇒ tornPlace ∷ [] ∥ []))) ≤ 212992
+    go true few = torn-lines-fit (answers p records) (answers-bounded p records) (omega (arith, answers-length p records))
     go false few =
-        rw append-nil
-        (lines-fit (answers initial records) (answers-bounded initial records) (omega (arith, answers-length initial records)))
+        rw append-nil (lines-fit (answers p records) (answers-bounded p records) (omega (arith, answers-length p records)))
+
+-- The report is those from the founding.
+pub report-fits : (input : Bytes) → length input ≤ 65536 → length (report input) ≤ 212992
+unfolding report
+report-fits input h = lines-from-fit initial input h
 
 -- What the program prints fits into its buffer, whatever its input.
 pub output-fits : (input : Bytes) → length (output input) ≤ 212992

@@ -1,0 +1,108 @@
+-- The loop of the reader: what is left to read, from the policy so far and the next number on, comes to what the whole card comes to. Each record
+-- that is stored takes one step of `load`.
+use mathlib.Core.Path.{_≡_, refl, sym, ap, _∙_}
+use mathlib.Core.Bool.{Bool, true, false, _&&_}
+use mathlib.Core.Logic.{_≢_}
+use mathlib.Core.List.{_++_}
+use Prim.Native.Nat.{ℕ, zero, suc, _+_, _-_, _≤_, _<_}
+use native.Mathlib.Nat.{le-refl}
+use native.Mathlib.Numerals.{add-one}
+use native.Mathlib.Omega.{arith}
+use lib.Dec.{eqb, leb}
+use lib.ListN.{length, take, drop, length-drop, length-append}
+use lib.Seq.{take-all, drop-drop}
+use borrow.Author.Tests.{eq-eqb, ne-eqb, le-leb, lt-leb}
+use Rattle.reach.specs.declared.Policy.{Policy}
+use Rattle.reach.specs.Tests.{_⇒_∥_}
+use Rattle.text.specs.Text.{Bytes}
+use Rattle.snapshot.specs.declared.Entry.{Entry}
+use Rattle.snapshot.specs.declared.Loaded.{Loaded}
+use Rattle.snapshot.specs.Card.{bytesOf}
+use Rattle.snapshot.specs.Loading.{places, numberOf, front, valid, sizeOf, store, blank, loaded, damage, load}
+use Rattle.snapshot.proofs.Records.{and-off, size-is, size-large, front-whole, number-low}
+
+-- ---- One step of `load`
+
+load-more : (kept p : Policy) (l n : ℕ) (c : Bytes) → length c ≢ 0
+    → load kept (suc l) p n c
+    ≡ (valid (front c) && leb n (numberOf (front c)) ⇒
+    load kept l (store p (front c)) (suc (numberOf (front c))) (drop (sizeOf (front c)) c) ∥ damage kept)
+unfolding load
+load-more kept p l n c h = rw (ne-eqb (length c) 0 h)
+
+load-done : (kept p : Policy) (l n : ℕ) (c : Bytes) → length c ≡ 0 → load kept l p n c ≡ loaded p
+unfolding load
+load-done kept p zero n c h = rw (eq-eqb (length c) 0 h)
+load-done kept p (suc l) n c h = rw (eq-eqb (length c) 0 h)
+
+-- The bytes from a place on, as they are lent.
+pub from-part : (b : Bytes) (at : ℕ) {e : Entry} → e ≡ front (take (length b - at) (drop at b)) → e ≡ front (drop at b)
+from-part b at q = q ∙ ap front (take-all (length b - at) (drop at b) (simp length-drop (le-refl _)))
+
+pub number-small : (e : Entry) → valid e ≡ true → numberOf e < 4256
+unfolding places
+number-small e v = number-low e v
+
+-- ---- The loop
+
+pub record Loading (kept : Policy) (b : Bytes) (p : Policy) (n at : ℕ) : Type 0 where
+  pub within : at ≤ length b
+  pub left : ℕ
+  pub enough : length b ≤ at + left
+  pub whole : load kept left p n (drop at b) ≡ load kept (length b) blank 0 b
+
+pub loading-start : (kept : Policy) (b : Bytes) (p : Policy) → p ≡ blank → Loading kept b p 0 0
+loading-start kept b p e = record { within = omega arith; left = length b; enough = omega arith; whole = rw e }
+
+module _ {kept : Policy} {b : Bytes} {p : Policy} {n at : ℕ} (w : Loading kept b p n at) where
+  pub loading-end : length b ≤ at → loaded p ≡ load kept (length b) blank 0 b
+  loading-end l = sym (load-done kept p (w .left) n (drop at b) (simp length-drop (omega arith))) ∙ w .whole
+
+  module _ (e : Entry) (inside : at < length b) (r : e ≡ front (drop at b)) where
+    step : (l : ℕ) → l ≡ w .left
+        → (valid e && leb n (numberOf e) ⇒ load kept (l - 1) (store p e) (suc (numberOf e)) (drop (sizeOf e) (drop at b)) ∥ damage kept)
+        ≡ load kept (length b) blank 0 b
+    step zero q = absurd (omega (arith, w .enough))
+    step (suc l) q =
+        let one : suc l - 1 ≡ l = omega arith in
+        rw (one, r)
+        (sym (load-more kept p l n (drop at b) (λ z. omega (arith, length-drop at b)))
+        ∙ ap (λ (i : ℕ). load kept i p n (drop at b)) q
+        ∙ w .whole)
+
+    -- A record that is none, or has no place.
+    pub loading-unfit : valid e ≡ false → damage kept ≡ load kept (length b) blank 0 b
+    loading-unfit v = rw v at (step (w .left) refl)
+
+    -- One that does not rise.
+    pub loading-fallen : (k : ℕ) → k ≡ numberOf e → k < n → damage kept ≡ load kept (length b) blank 0 b
+    loading-fallen k q l = rw (lt-leb n (numberOf e) (omega arith), and-off) at (step (w .left) refl)
+
+    -- One that is stored: its bytes are all there.
+    pub record-inside : valid e ≡ true → (at + sizeOf e ≤ length b) × (1 ≤ sizeOf e)
+    record-inside v =
+        let f : valid (front (drop at b)) ≡ true = rw r at v in
+        let g = ap length (front-whole (drop at b) f) in (
+          omega (
+            arith,
+            w .within,
+            g,
+            length-append (bytesOf (front (drop at b))) (drop (sizeOf (front (drop at b))) (drop at b)),
+            size-is (front (drop at b)),
+            length-drop at b,
+            ap sizeOf r,
+          ),
+          omega (arith, size-large e v),
+        )
+
+    pub loading-next : (k m : ℕ) (t : Policy) → valid e ≡ true → k ≡ numberOf e → n ≤ k → m ≡ sizeOf e → t ≡ store p e
+        → Loading kept b t (k + 1) (at + m)
+    loading-next k m t v q l z x =
+        record {
+          within = omega (arith, record-inside v);
+          left = w .left - 1;
+          enough = omega (arith, w .enough, size-large e v);
+          whole =
+              rw (x, add-one, q, z, ← drop-drop (sizeOf e) at b)
+              (rw (v, le-leb n (numberOf e) (omega arith)) at (step (w .left) refl));
+        }

@@ -1,0 +1,52 @@
+-- What the writer of a card and its reader answer.
+use mathlib.Core.Path.{_≡_}
+use mathlib.Core.List.{List}
+use Prim.Native.Nat.{ℕ, _≤_, _<_}
+use lib.ListN.{length}
+use Rattle.reach.specs.declared.Policy.{Policy}
+use Rattle.reach.specs.Tables.{view, Sized}
+use Rattle.text.specs.Text.{Bytes}
+use Rattle.list.specs.Filling.{over}
+use Rattle.soundness.specs.Soundness.{Sound}
+use Rattle.snapshot.specs.declared.Status.{Status}
+use Rattle.snapshot.specs.declared.Status.the-variants.{Done, Damaged, Short}
+use Rattle.snapshot.specs.declared.Written.{Written}
+use Rattle.snapshot.specs.declared.Loaded.{Loaded}
+use Rattle.snapshot.specs.Card.{fileOf, Same, Zeroed}
+
+-- [02:2.10] "Turned away: 13 damaged, ..; then 14 short card": and 0 for what is done.
+abbrev pub codeOf : Status → ℕ
+codeOf Done = 0
+codeOf Damaged = 13
+codeOf Short = 14
+
+-- The most bytes that the file of a sound policy can have: 63 groups and a user, all 4,032 memberships in the groups, 32 appointments and 64
+-- rules. That none is longer is proved in proofs/Largest.
+abbrev pub largest : ℕ
+largest = 25376
+
+-- What is written of the policy p into the lent bytes, which then are `after`.
+pub data Writes (p : Policy) (lent after : Bytes) (r : Written) : Type 0 where
+  -- [02:2.8] "The writer returns the file's length, .., and leaves lent bytes past the file untouched."
+  done : Sound (view p) → length (fileOf (view p)) ≤ length lent
+      → r ≡ record { status = Done; length = length (fileOf (view p)) } → after ≡ over (fileOf (view p)) lent → Writes p lent after r
+  -- [02:2.10] "13 damaged, when the writer's sheet isn't sound", [02:2.8] "0 when refused", [02:2.11] "Neither writes anything."
+  damaged : (Sound (view p) → ⊥) → r ≡ record { status = Damaged; length = 0 } → after ≡ lent → Writes p lent after r
+  -- [02:2.10] "then 14 short card, when the lent bytes are fewer than the file needs", and as before.
+  short : Sound (view p) → length lent < length (fileOf (view p)) → r ≡ record { status = Short; length = 0 } → after ≡ lent
+      → Writes p lent after r
+
+-- The bytes are the file of a sound policy, of tables with their sizes as every policy has them that the program holds.
+pub record FileOf (p : Policy) (card : Bytes) : Type 0 where
+  pub sized : Sized p
+  pub sound : Sound (view p)
+  pub file : fileOf (view p) ≡ card
+
+-- What is read of a card, where the board had the policy `kept`.
+pub data Reads (kept : Policy) (card : Bytes) (r : Loaded) : Type 0 where
+  -- [02:2.5] "The reader takes only what the writer produces for a sound sheet, and gives a sheet whose empty places hold zeros." [02:2.7] "A
+  -- sound sheet, written and read, comes back the same in those": whichever policy was written.
+  taken : r .status ≡ Done → FileOf (r .policy) card → Zeroed (r .policy)
+      → ((p : Policy) → FileOf p card → Same (view p) (view (r .policy))) → Reads kept card r
+  -- [02:2.10] "13 damaged, .. for any other bytes at the reader, the board's sheet kept"
+  damaged : ((p : Policy) → FileOf p card → ⊥) → r ≡ record { status = Damaged; policy = kept } → Reads kept card r

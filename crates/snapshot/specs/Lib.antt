@@ -1,0 +1,5 @@
+-- The file of a policy on a card; what the writer and the reader answer; how the reader goes.
+pub mod Card
+pub mod Answers
+pub mod Writing
+pub mod Loading

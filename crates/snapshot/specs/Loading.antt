@@ -1,0 +1,99 @@
+-- How the reader goes, for the contracts of its parts: every place has a number in the order of the file, and a record whose number does not
+-- rise is damage. What it answers is said in Answers, with no word of this.
+use mathlib.Core.Bool.{Bool, false, _&&_}
+use mathlib.Core.List.{List}
+use Prim.Native.Nat.{ℕ, zero, suc, _+_, _-_, _*_, _/_, _%_}
+use lib.Dec.{eqb, leb, ltb}
+use lib.ListN.{length, set, drop, replicate}
+use Rattle.frame.specs.Fields.{byte, lengthField, kindField}
+use Rattle.reach.specs.declared.Policy.{Policy}
+use Rattle.reach.specs.declared.Appointment.{Appointment}
+use Rattle.reach.specs.Tests.{_⇒_∥_}
+use Rattle.reach.specs.Tables.{View, noAppointment, noRule, standing}
+use Rattle.reach.specs.Successors.{withSorts, put, appointed, granted}
+use Rattle.text.specs.Text.{Bytes}
+use Rattle.snapshot.specs.declared.Entry.{Entry}
+use Rattle.snapshot.specs.declared.Entry.the-variants.{Object, Membership, Appointed, Granted, Empty}
+use Rattle.snapshot.specs.declared.Status.the-variants.{Done, Damaged}
+use Rattle.snapshot.specs.declared.Loaded.{Loaded}
+use Rattle.snapshot.specs.Card.{known, objectAt, membershipAt, appointedAt, grantedAt}
+
+-- 64 objects, 64 * 64 memberships, 32 appointments, 64 rules.
+unfoldable pub places : ℕ
+places = 4256
+
+unfoldable pub numberOf : Entry → ℕ
+numberOf (Object x s) = x
+numberOf (Membership x g) = 64 + 64 * x + g
+numberOf (Appointed i k h a b) = 4160 + i
+numberOf (Granted i u t o) = 4192 + i
+numberOf Empty = 4256
+
+-- What stands at the place with that number.
+unfoldable pub entry : View → ℕ → Entry
+entry v k =
+    ltb k 64 ⇒ objectAt v k ∥
+    ltb k 4160 ⇒ membershipAt v ((k - 64) / 64) ((k - 64) % 64) ∥
+    ltb k 4192 ⇒ appointedAt v (k - 4160) ∥
+    grantedAt v (k - 4192)
+
+abbrev pub sizeOf : Entry → ℕ
+sizeOf (Object x s) = 6
+sizeOf (Membership x g) = 6
+sizeOf (Appointed i k h a b) = 9
+sizeOf (Granted i u t o) = 8
+sizeOf Empty = 0
+
+-- The bytes begin with a whole record of n bytes and of kind k.
+abbrev pub headed : Bytes → ℕ → ℕ → Bool
+headed b n k = eqb (lengthField b) n && eqb (kindField b) k && leb n (length b)
+
+-- The record at the front of the bytes; Empty where none of the four kinds stands there.
+unfoldable pub front : Bytes → Entry
+front b =
+    headed b 6 16 ⇒ Object (byte b 4) (byte b 5) ∥
+    headed b 6 17 ⇒ Membership (byte b 4) (byte b 5) ∥
+    headed b 9 18 ⇒ Appointed (byte b 4) (byte b 5) (byte b 6) (byte b 7) (byte b 8) ∥
+    headed b 8 19 ⇒ Granted (byte b 4) (byte b 5) (byte b 6) (byte b 7) ∥
+    Empty
+
+-- It has a place in the tables, and is in use there.
+abbrev pub valid : Entry → Bool
+valid (Object x s) = ltb x 64 && known s
+valid (Membership x g) = ltb x 64 && ltb g 64
+valid (Appointed i k h a b) = ltb i 32 && known k
+valid (Granted i u t o) = ltb i 64
+valid Empty = false
+
+-- The policy with the record in its place.
+abbrev pub store : Policy → Entry → Policy
+store p (Object x s) = withSorts p (set (p .sorts) x s)
+store p (Membership x g) = put p x g
+store p (Appointed i k h a b) = appointed p i (record { kind = k; holder = h; a = a; b = b })
+store p (Granted i u t o) = granted p i u t o
+store p Empty = p
+
+-- The policy with nothing in it.
+unfoldable pub blank : Policy
+blank =
+    record {
+      sorts = replicate 64 0;
+      members = replicate 64 0;
+      appointments = replicate 32 noAppointment;
+      rules = replicate 64 noRule;
+    }
+
+abbrev pub loaded : Policy → Loaded
+loaded p = record { status = Done; policy = p }
+
+abbrev pub damage : Policy → Loaded
+damage kept = record { status = Damaged; policy = kept }
+
+-- The records of the bytes, stored in p one after the other; the next has number n or a higher one, and there are at most l.
+unfoldable pub load : Policy → ℕ → Policy → ℕ → Bytes → Loaded
+load kept zero p n b = eqb (length b) 0 ⇒ loaded p ∥ damage kept
+load kept (suc l) p n b =
+    eqb (length b) 0 ⇒ loaded p ∥
+    valid (front b) && leb n (numberOf (front b)) ⇒
+    load kept l (store p (front b)) (suc (numberOf (front b))) (drop (sizeOf (front b)) b) ∥
+    damage kept

@@ -1,0 +1,27 @@
+-- How the writer goes, for the contracts of its parts. What it answers is said in Answers, with no word of this.
+use mathlib.Core.Path.{_≡_}
+use Prim.Native.Nat.{ℕ, zero, suc, _+_}
+use lib.Bits.{bitOr}
+use lib.ListN.{length, getD}
+use mathlib.Core.List.{List}
+use Rattle.reach.specs.Words.{has}
+use Rattle.text.specs.Text.{Bytes, Wrote}
+use Rattle.snapshot.specs.declared.Pen.{Pen}
+use Rattle.snapshot.specs.Card.{bytesOf, membershipOf, from}
+
+-- The text is put into the buffer, as much of it as there is room for, and counted whole.
+pub record Penned (buffer : Bytes) (pen : Pen) (text buffer′ : Bytes) (pen′ : Pen) : Type 0 where
+  pub wrote : Wrote buffer (pen .at) text buffer′ (pen′ .at)
+  pub count : pen′ .needed ≡ pen .needed + length text
+
+abbrev pub fresh : Pen
+fresh = record { at = 0; needed = 0 }
+
+-- The groups that x is directly in, as the rows of the members have them.
+abbrev pub rowOf : List ℕ → ℕ → Bytes
+rowOf members x = from 64 0 (λ g. bytesOf (membershipOf (has (getD members g 0) x) x g))
+
+-- All that is stored as directly in one of the first n, as a set.
+unfoldable pub storedAnywhere : ℕ → List ℕ → ℕ
+storedAnywhere zero members = 0
+storedAnywhere (suc n) members = bitOr (storedAnywhere n members) (getD members n 0)

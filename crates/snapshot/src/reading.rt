@@ -1,0 +1,150 @@
+// The reader of a card: record by record into an empty policy, each at a later place than the one before; at the end the policy must be
+// sound.
+ghost use mathlib.Core.Path.{_≡_};
+ghost use mathlib.Core.Bool.{true};
+ghost use mathlib.Core.List.{List};
+ghost use Prim.Native.Nat.{_<_};
+ghost use lib.ListN.{length, set};
+ghost use Rattle.reach.specs.Successors.{withSorts};
+ghost use Rattle.text.specs.Text.{Bytes};
+ghost use Rattle.list.specs.Demand.{Demand3};
+ghost use Rattle.snapshot.specs.declared.Status.the-variants.{Done};
+ghost use Rattle.snapshot.specs.Answers.{Reads};
+ghost use Rattle.snapshot.specs.Loading.{headed, front, valid, store, blank, load};
+use crate::Entry;
+use crate::Loaded;
+use crate::Status;
+use frame::byte;
+use frame::kind_field;
+use frame::length_field;
+use reach::AccessRule;
+use reach::Appointment;
+use reach::Policy;
+use soundness::is_sound;
+
+// Whether the bytes begin with a whole record of n bytes and of kind k.
+fn headed(b: &[u8], n: usize, k: usize) -> bool
+    ensures { λ r. ⌜ r ≡ headed (now (b .entry)) n k ⌝ }
+{
+    (length_field(b) == n) & (kind_field(b) == k) & (n <= b.len())
+}
+
+// The record at the front of the bytes.
+fn front(b: &[u8]) -> Entry
+    ensures { λ r. ⌜ r ≡ front (now (b .entry)) ⌝ }
+{
+    if headed(b, 6, 16) {
+        return Entry::Object(byte(b, 4), byte(b, 5));
+    }
+    if headed(b, 6, 17) {
+        return Entry::Membership(byte(b, 4), byte(b, 5));
+    }
+    if headed(b, 9, 18) {
+        return Entry::Appointed(byte(b, 4), byte(b, 5), byte(b, 6), byte(b, 7), byte(b, 8));
+    }
+    if headed(b, 8, 19) {
+        return Entry::Granted(byte(b, 4), byte(b, 5), byte(b, 6), byte(b, 7));
+    }
+    Entry::Empty
+}
+
+// The policy with another sort of the object x.
+fn with_sort(mut p: Policy, x: u8, s: u8) -> Policy
+    requires { ⌜ x < 64 ⌝ }
+    ensures { λ r. ⌜ r ≡ withSorts p (set (p .sorts) x s) ⌝ }
+{
+    p.sorts[x as usize] = s;
+    p
+}
+
+// The policy with the record in its place.
+fn store(p: Policy, e: Entry) -> Policy
+    requires { ⌜ valid e ≡ true ⌝ }
+    ensures { λ r. ⌜ r ≡ store p e ⌝ }
+{
+    match e {
+        Entry::Object(x, s) => with_sort(p, x, s),
+        Entry::Membership(x, g) => p.put(x, g),
+        Entry::Appointed(i, k, h, a, b) => p.appointed(
+            i,
+            Appointment {
+                kind: k,
+                holder: h,
+                a: a,
+                b: b,
+            },
+        ),
+        Entry::Granted(i, u, t, o) => p.granted(i, u, t, o),
+        Entry::Empty => p,
+    }
+}
+
+// The policy with nothing in it.
+fn blank() -> Policy
+    ensures { λ r. ⌜ r ≡ blank ⌝ }
+{
+    Policy {
+        sorts: [0; 64],
+        members: [0; 64],
+        appointments: [Appointment {
+            kind: 0,
+            holder: 0,
+            a: 0,
+            b: 0,
+        }; 32],
+        rules: [AccessRule {
+            used: false,
+            users: 0,
+            targets: 0,
+            operations: 0,
+        }; 64],
+    }
+}
+
+// The records of the card, stored in the empty policy.
+fn load(kept: Policy, card: &[u8]) -> Loaded
+    ensures { λ r. ⌜ r ≡ load kept (length (now (card .entry))) blank 0 (now (card .entry)) ⌝ }
+{
+    let mut p = blank();
+    let mut n: usize = 0;
+    let mut at: usize = 0;
+    while at < card.len() {
+        let e = front(&card[at..]);
+        if !e.valid() {
+            return Loaded {
+                status: Status::Damaged,
+                policy: kept,
+            };
+        }
+        let k = e.number();
+        if k < n {
+            return Loaded {
+                status: Status::Damaged,
+                policy: kept,
+            };
+        }
+        p = store(p, e);
+        n = k + 1;
+        at = at + e.size();
+    }
+    Loaded {
+        status: Status::Done,
+        policy: p,
+    }
+}
+
+// The policy of a card, or the one that the board had. From a policy that was read demand 3 holds for every list.
+pub fn read_card(kept: Policy, card: &[u8]) -> Loaded
+    ensures { λ r. ⌜ Reads kept (now (card .entry)) r ⌝ }
+    ensures { λ r. ⌜ (r .status ≡ Done → (list : List Bytes) → Demand3 (r .policy) list) ⌝ }
+{
+    let r = load(kept, card);
+    let policy = r.policy;
+    if is_sound(policy) {
+        return r;
+    }
+    Loaded {
+        status: Status::Damaged,
+        policy: kept,
+    }
+}
