@@ -1,4 +1,6 @@
--- The picture of a policy in bytes, what is judged by it, what a whole list leaves, and what is told of a refusal for own gain.
+-- The picture of a policy in bytes, what is judged by it, what a whole list leaves, what is told of a refusal for own gain,
+-- and a policy on a card.
 pub mod Picture
 pub mod Listed
 pub mod Told
+pub mod Carded

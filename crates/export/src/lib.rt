@@ -8,6 +8,7 @@ ghost use Rattle.list.specs.Report.{report};
 ghost use Rattle.export.specs.Picture.{Judged};
 ghost use Rattle.export.specs.Listed.{Listed};
 ghost use Rattle.export.specs.Told.{GainTold};
+ghost use Rattle.export.specs.Carded.{CardWritten, CardRead};
 
 mod drawing;
 mod reading;
@@ -19,6 +20,9 @@ use judge::judge;
 use judge::own_gain_of;
 use reading::policy_of;
 use rows::Gain;
+use snapshot::read_card;
+use snapshot::status_code;
+use snapshot::write_card;
 
 // The lines for the records of an input of any length into out, as the program prints them for one that is not too long. A buffer that is
 // too small gets as much of the text as it has room for. The result counts the bytes written. Of the records demand 3 holds, whole.
@@ -100,4 +104,44 @@ pub extern "C" fn selkaum_gain(policy: &[u8], bytes: &[u8], gain: &mut [u8]) -> 
         }
         Gain::Nothing => 0,
     }
+}
+
+// Writes the file of the policy of a picture over the first bytes of the card, and the code into the first byte of the other buffer: 0, 13
+// if the policy isn't sound, 14 if the card is too short, with nothing written to the card. The result is the file's length, 0 when refused.
+// Where the picture isn't 960 bytes or there is no byte for the code, nothing at all is written, and the result is 0.
+#[no_mangle]
+pub extern "C" fn selkaum_write_card(policy: &[u8], card: &mut [u8], code: &mut [u8]) -> usize
+    ensures { λ r. ⌜ CardWritten (now (policy .entry)) (now (card .entry)) (now (code .entry)) (now (card .exit)) (now (code .exit)) r ⌝ }
+{
+    if policy.len() != 960 {
+        return 0;
+    }
+    if code.len() < 1 {
+        return 0;
+    }
+    let written = write_card(policy_of(policy), card);
+    let status = written.status;
+    code[0] = status_code(status);
+    written.length
+}
+
+// Reads a card, where the board has the policy of a picture: the picture of the policy after and the code, 961 bytes, go into the answer, and
+// the result is 961. The code is 0, with the policy of the card; or 13 with the one that the board had. Where the picture isn't 960 bytes or
+// the answer is too short, nothing is written, and the result is 0. From a policy that was read demand 3 holds for every list.
+#[no_mangle]
+pub extern "C" fn selkaum_read_card(policy: &[u8], card: &[u8], answer: &mut [u8]) -> usize
+    ensures { λ r. ⌜ CardRead (now (policy .entry)) (now (card .entry)) (now (answer .entry)) (now (answer .exit)) r ⌝ }
+{
+    if policy.len() != 960 {
+        return 0;
+    }
+    if answer.len() < 961 {
+        return 0;
+    }
+    let loaded = read_card(policy_of(policy), card);
+    let status = loaded.status;
+    let after = loaded.policy;
+    put_policy(answer, after);
+    answer[960] = status_code(status);
+    961
 }
