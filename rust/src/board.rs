@@ -7,6 +7,9 @@ use crate::sheet::{Sheet, NO_RULE, PICTURE};
 /// Length of an answer: the picture of the sheet after, the code and the cited rule.
 pub const ANSWER: usize = PICTURE + 2;
 
+/// Length of an answer to a card: the picture of the sheet after, and the code.
+pub const CARD_ANSWER: usize = PICTURE + 1;
+
 extern "C" {
     fn selkaum_judge(
         policy: *const u8,
@@ -39,6 +42,24 @@ extern "C" {
         record_len: usize,
         gain: *mut u8,
         gain_len: usize,
+    ) -> usize;
+
+    fn selkaum_write_card(
+        policy: *const u8,
+        policy_len: usize,
+        card: *mut u8,
+        card_len: usize,
+        code: *mut u8,
+        code_len: usize,
+    ) -> usize;
+
+    fn selkaum_read_card(
+        policy: *const u8,
+        policy_len: usize,
+        card: *const u8,
+        card_len: usize,
+        answer: *mut u8,
+        answer_len: usize,
     ) -> usize;
 }
 
@@ -184,6 +205,58 @@ pub fn gain(picture: &[u8; PICTURE], record: &[u8]) -> Option<(u8, u8)> {
             None
         }
     }
+}
+
+/// `selkaum_write_card` as it is: writes the file over the start of `card` and the code over the
+/// first byte of `code`, if the lengths fit, and returns the file's length, or 0 when refused.
+pub fn write_card_into(policy: &[u8], card: &mut [u8], code: &mut [u8]) -> usize {
+    // SAFETY: the slices' bytes are there, and neither of the two buffers is lent twice.
+    unsafe {
+        selkaum_write_card(
+            policy.as_ptr(),
+            policy.len(),
+            card.as_mut_ptr(),
+            card.len(),
+            code.as_mut_ptr(),
+            code.len(),
+        )
+    }
+}
+
+/// The board's code for the sheet of a picture, and the length of the file that it writes into
+/// the lent bytes.
+pub fn write_card(picture: &[u8; PICTURE], lent: &mut [u8]) -> (u8, usize) {
+    // No code of the board, so that one that isn't written is seen.
+    let mut code = [255];
+    let length = write_card_into(picture, lent, &mut code);
+    (code[0], length)
+}
+
+/// `selkaum_read_card` as it is: writes the picture of the sheet after and the code over the
+/// start of `answer`, if the lengths fit, and returns the number of bytes written.
+pub fn read_card_into(policy: &[u8], card: &[u8], answer: &mut [u8]) -> usize {
+    // SAFETY: the slices' bytes are there, and none is lent twice, for `answer` is lent alone.
+    unsafe {
+        selkaum_read_card(
+            policy.as_ptr(),
+            policy.len(),
+            card.as_ptr(),
+            card.len(),
+            answer.as_mut_ptr(),
+            answer.len(),
+        )
+    }
+}
+
+/// The board's code for a card, and the picture of the sheet after; this is the kept one if the
+/// card is damaged.
+pub fn read_card(kept: &[u8; PICTURE], card: &[u8]) -> (u8, [u8; PICTURE]) {
+    let mut bytes = [0; CARD_ANSWER];
+    let written = read_card_into(kept, card, &mut bytes);
+    assert_eq!(written, CARD_ANSWER, "the board writes a whole answer");
+    let mut picture = [0; PICTURE];
+    picture.copy_from_slice(&bytes[..PICTURE]);
+    (bytes[PICTURE], picture)
 }
 
 /// The picture of the founding.

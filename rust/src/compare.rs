@@ -1,6 +1,8 @@
 //! The proved board held against the three judges of this package. Where they differ, the
 //! records that show it are cut down to those that it needs.
 
+pub mod cards;
+
 use crate::list::{self, Run};
 use crate::report::{lines, Next, Reader};
 use crate::sheet::{Sheet, PICTURE};

@@ -2,11 +2,12 @@
 //! follow the sheet as they go, so that every pair (kind, code) comes often, and single
 //! requests on sheets of any value, from sensible to pure junk.
 
+pub mod cards;
 mod draw;
 mod sheets;
 mod streams;
 
-pub use sheets::{picture, request, sheet};
+pub use sheets::{picture, picture_of, request, sheet};
 pub use streams::{stream, torn_tail, Profile};
 
 /// Splitmix64: small, and the same on every machine.

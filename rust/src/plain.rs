@@ -2,7 +2,7 @@
 //! with loops over objects, members and operations, and holdings compared before and after.
 //! Speed is no concern here.
 
-mod holdings;
+pub(crate) mod holdings;
 mod record;
 
 use crate::sheet::*;

@@ -6,20 +6,24 @@
 //! is stopped doesn't count.
 //!
 //! Streams from the founding are compared as whole reports, whole, torn and with bytes changed,
-//! and record by record; single requests on sheets of any value. A difference is printed with
-//! the shortest list of records that shows it, and ends the run with status 1. At the end it
-//! prints how much was compared.
+//! and record by record; single requests on sheets of any value; cards that are written, read
+//! back and damaged. A difference is printed with the shortest list of records, or with the sheet
+//! or the card, that shows it, and ends the run with status 1. At the end it prints how much was
+//! compared.
 
+use beside::card;
 use beside::compare;
 use beside::fast;
+use beside::generate::cards::{self, Damage, Fault, Fill};
 use beside::generate::{self, Profile, Rng};
-use beside::sheet::Sheet;
+use beside::sheet::{Sheet, PICTURE};
 use beside::tally::{Counts, Shapes};
 use std::process::ExitCode;
 use std::time::{Duration, Instant};
 
 const SHEETS_PER_TURN: usize = 400;
 const REQUESTS_PER_SHEET: usize = 5;
+const CARDS_PER_TURN: usize = 100;
 
 fn main() -> ExitCode {
     let arguments: Vec<String> = std::env::args().skip(1).collect();
@@ -49,6 +53,9 @@ fn soak(time: Duration, seed: u64) -> Result<(), String> {
         }
         for _ in 0..SHEETS_PER_TURN {
             done.requests(&mut rng)?;
+        }
+        for _ in 0..CARDS_PER_TURN {
+            done.cards(&mut rng)?;
         }
         if worked().as_secs() / 300 > told {
             told = worked().as_secs() / 300;
@@ -98,17 +105,25 @@ struct Done {
     on_streams: Counts,
     on_sheets: Counts,
     shapes: Shapes,
+    /// How many cards were written, and how many read, with code 0 and with another.
+    written: [usize; 2],
+    read: [usize; 2],
 }
 
 impl Done {
     fn so_far(&self) -> String {
         format!(
-            "{} streams of {} records one by one; {} reports with {} lines; {} single requests",
+            "{} streams of {} records one by one; {} reports with {} lines; {} single requests; \
+             {} cards written and {} refused, {} read and {} damaged",
             self.streams,
             self.on_streams.total(),
             self.reports,
             self.report_lines,
-            self.on_sheets.total()
+            self.on_sheets.total(),
+            self.written[0],
+            self.written[1],
+            self.read[0],
+            self.read[1]
         )
     }
 
@@ -159,6 +174,38 @@ impl Done {
             let answer = compare::single(&picture, &record)?;
             self.on_sheets.add(&record, answer.code);
         }
+        Ok(())
+    }
+
+    /// A sound sheet, one with a fault and one of any value, each written and its file read; and
+    /// that card changed, and another with a damage of its own.
+    fn cards(&mut self, rng: &mut Rng) -> Result<(), String> {
+        let (fill, fault) = (rng.pick(&Fill::ALL), rng.pick(&Fault::ALL));
+        let [_, spoilt] = cards::spoilt(rng, fault);
+        let sheets = [
+            cards::sound_with_junk(rng, fill),
+            spoilt,
+            generate::sheet(rng),
+        ];
+        for sheet in sheets {
+            let picture = generate::picture_of(rng, &sheet);
+            let file = card::file(&sheet);
+            let short = rng.percent(30) as usize;
+            for room in [file.len().saturating_sub(short), rng.below(card::LARGEST)] {
+                let (code, _) = compare::cards::write(&picture, room)?;
+                self.written[(code != 0) as usize] += 1;
+            }
+            let kept = generate::picture(rng);
+            self.card(&kept, &file)?;
+            self.card(&kept, &cards::changed_card(rng, &file))?;
+        }
+        let damage = rng.pick(&Damage::ALL);
+        self.card(&sheets[2].picture(), &cards::damaged(rng, damage))
+    }
+
+    fn card(&mut self, kept: &[u8; PICTURE], card: &[u8]) -> Result<(), String> {
+        let (code, _) = compare::cards::read(kept, card)?;
+        self.read[(code != 0) as usize] += 1;
         Ok(())
     }
 }

@@ -53,12 +53,12 @@ impl<'a> Draw<'a> {
         self.one_of(&numbers)
     }
 
-    fn in_use(&mut self) -> u8 {
+    pub fn in_use(&mut self) -> u8 {
         let numbers = self.used();
         self.one_of(&numbers)
     }
 
-    fn not_in_use(&mut self) -> u8 {
+    pub fn not_in_use(&mut self) -> u8 {
         let numbers = self.numbers(|sort| !(GROUP..=GEAR).contains(&sort));
         self.one_of(&numbers)
     }

@@ -30,7 +30,13 @@ pub fn sheet(rng: &mut Rng) -> Sheet {
 /// A picture of any sheet value, in which the marks of empty rule places are at times other
 /// bytes than 0.
 pub fn picture(rng: &mut Rng) -> [u8; PICTURE] {
-    let mut picture = sheet(rng).picture();
+    let sheet = sheet(rng);
+    picture_of(rng, &sheet)
+}
+
+/// A picture of this sheet, with marks as above.
+pub fn picture_of(rng: &mut Rng, sheet: &Sheet) -> [u8; PICTURE] {
+    let mut picture = sheet.picture();
     let spoilt = rng.pick(&[0, 20, 100]);
     for rule in picture[PICTURE - 4 * RULES..].chunks_mut(4) {
         if rule[0] == 0 && rng.percent(spoilt) {

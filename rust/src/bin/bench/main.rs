@@ -7,6 +7,7 @@
 //! them in short turns, the three by turns; the shortest time of each counts. So noise hits all of
 //! them, and some turns are undisturbed.
 
+mod cards;
 mod club;
 mod growth;
 mod heavy;
@@ -25,6 +26,7 @@ fn main() {
         kinds::measure,
         growth::measure,
         heavy::measure,
+        cards::measure,
     ];
     let mut shortest = tables.map(|measure| measure());
     for _ in 1..PASSES {
@@ -32,7 +34,7 @@ fn main() {
             keep_shorter(rows, measure());
         }
     }
-    let [streams, kinds, growth, heavy] = shortest;
+    let [streams, kinds, growth, heavy, cards] = shortest;
     println!(
         "Nanoseconds, the best of {} turns.\n",
         PASSES * ROUNDS * SHIFTS
@@ -41,5 +43,6 @@ fn main() {
     kinds::print(&kinds);
     growth::print(&growth);
     heavy::print(&heavy);
+    cards::print(&cards);
     stack::print();
 }
