@@ -1,23 +1,21 @@
--- What is stored in no group has no record among the memberships: the union of the rows has every bit of each.
+-- What is in the union of the rows of the members of no group is in none of them: the union has every bit of each.
 use mathlib.Core.Path.{_≡_, refl, sym, ap, _∙_}
 use mathlib.Core.Bool.{Bool, true, false, true≢false}
 use mathlib.Core.Logic.{_⊎_, inl, inr, ⊎-elim}
-use mathlib.Core.List.{List, []}
+use mathlib.Core.List.{List}
 use Prim.Native.Nat.{ℕ, zero, suc, _+_, _<_}
 use native.Mathlib.Nat.{not-suc-le-zero}
 use native.Mathlib.Numerals.{add-one}
+use native.Mathlib.Decide.{decLt}
 use native.Mathlib.Omega.{arith}
 use lib.Bits.{bitOr}
-use lib.ListN.{getD}
-use Rattle.reach.specs.Tests.{_⇒_∥_}
+use lib.ListN.{length, getD}
 use Rattle.reach.specs.Words.{bit, has}
-use Rattle.reach.proofs.Bits.{bit-of-or}
+use Rattle.reach.proofs.Bits.{bit-of-or, bit-none}
+use Rattle.reach.proofs.Lists.{getD-past}
 use Rattle.reach.proofs.Testing.{refuted}
 use Rattle.reach.proofs.WordSets.{has-decides, below-next}
-use Rattle.snapshot.specs.declared.Entry.the-variants.{Membership, Empty}
-use Rattle.snapshot.specs.Card.{bytesOf, membershipOf, from}
-use Rattle.snapshot.specs.Writing.{rowOf, storedAnywhere}
-use Rattle.snapshot.proofs.Runs.{from-none}
+use Rattle.snapshot.specs.Writing.{storedAnywhere}
 
 pub anywhere-none : (members : List ℕ) → 0 ≡ storedAnywhere 0 members
 unfolding storedAnywhere
@@ -38,14 +36,18 @@ bit-anywhere members (suc n) g x l b =
     (λ (h : g < n). inl (bit-anywhere members n g x h b))
     (below-next g n (omega arith)))
 
--- A row without a bit.
-pub row-none : (members : List ℕ) (all x : ℕ) (some : Bool) → all ≡ storedAnywhere 64 members → some ≡ has all x → some ≡ false
-    → rowOf members x ≡ []
-row-none members all x some e h none = from-none 64 0 _ (λ g a b. empty g (omega arith) (has (getD members g 0) x) refl)
+-- What is in none of them is in no row.
+pub nowhere : (members : List ℕ) → length members ≡ 64 → (all x : ℕ) (some : Bool) → all ≡ storedAnywhere 64 members → some ≡ has all x
+    → some ≡ false → (g : ℕ) → has (getD members g 0) x ≡ false
+nowhere members long all x some e h none g = go (has (getD members g 0) x) refl (decLt g 64)
   where
-    empty : (g : ℕ) → g < 64 → (t : Bool) → has (getD members g 0) x ≡ t → bytesOf (membershipOf t x g) ≡ []
-    empty g l true q =
+    go : (t : Bool) → has (getD members g 0) x ≡ t → Dec (g < 64) → t ≡ false
+    go false q d = refl
+    go true q (yes l) =
         absurd
         (refuted (has-decides all x) (sym h ∙ none)
         (ap (λ (n : ℕ). bit n x) e ∙ bit-anywhere members 64 g x l (has-decides (getD members g 0) x .sound q)))
-    empty g l false q = refl
+    go true q (no n) =
+        absurd
+        (bit-none x
+        (ap (λ (w : ℕ). bit w x) (sym (getD-past members g 0 (omega (arith, long)))) ∙ has-decides (getD members g 0) x .sound q))

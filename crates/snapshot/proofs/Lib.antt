@@ -14,4 +14,5 @@ pub mod Theorems
 pub mod Largest
 pub mod Penning
 pub mod Anywhere
+pub mod Rowing
 pub mod Stepping

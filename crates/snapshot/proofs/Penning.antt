@@ -21,7 +21,7 @@ use Rattle.snapshot.specs.declared.Pen.{Pen}
 use Rattle.snapshot.specs.declared.Entry.the-variants.{Object, Empty}
 use Rattle.snapshot.specs.Card.{bytesOf, objectOf, membershipOf, appointedOf, grantedOf, objectAt, membershipAt, appointedAt, grantedAt, from}
 use Rattle.snapshot.specs.Loading.{sizeOf}
-use Rattle.snapshot.specs.Writing.{Penned, rowOf, fresh}
+use Rattle.snapshot.specs.Writing.{Penned, fresh}
 use Rattle.snapshot.proofs.Records.{size-is, size-small}
 use Rattle.snapshot.proofs.Runs.{from-end, from-same, from-more, from-length}
 
@@ -67,7 +67,7 @@ module _ {s n : ℕ} {o o′ : Bytes} {pen a : Pen} {f : ℕ → Bytes} {k : ℕ
   penning-length = w .penned .wrote .length-kept
 
 -- A record has at most nine bytes, and a row of 64 of them at most 576.
-record-small : (e : Entry) → length (bytesOf e) ≤ 9
+pub record-small : (e : Entry) → length (bytesOf e) ≤ 9
 record-small e = omega (arith, size-is e, size-small e)
 
 pub penning-records : (n : ℕ) (o : Bytes) (pen : Pen) (e : ℕ → Entry) → Penning 9 n o pen (λ k. bytesOf (e k)) 0 o pen
@@ -76,9 +76,11 @@ penning-records n o pen e = penning-start 9 n o pen (λ k. bytesOf (e k)) (λ i.
 row-small : (e : ℕ → Entry) → length (from 64 0 (λ g. bytesOf (e g))) ≤ 576
 row-small e = omega (arith, from-length 64 0 9 (λ g. bytesOf (e g)) (λ k a b. record-small (e k)))
 
-pub penning-rows : (n : ℕ) (o : Bytes) (pen : Pen) (members : List ℕ) → Penning 576 n o pen (λ x. rowOf members x) 0 o pen
+pub penning-rows : (n : ℕ) (o : Bytes) (pen : Pen) (members : List ℕ)
+    → Penning 576 n o pen (λ x. from 64 0 (λ g. bytesOf (membershipOf (has (getD members g 0) x) x g))) 0 o pen
 penning-rows n o pen members =
-    penning-start 576 n o pen (λ x. rowOf members x) (λ x. row-small (λ g. membershipOf (has (getD members g 0) x) x g))
+    penning-start 576 n o pen (λ x. from 64 0 (λ g. bytesOf (membershipOf (has (getD members g 0) x) x g)))
+    (λ x. row-small (λ g. membershipOf (has (getD members g 0) x) x g))
 
 -- ---- The tables of a policy
 
@@ -99,7 +101,7 @@ module _ (p : Policy) where
   pub objects-are : from 64 0 (λ x. bytesOf (objectOf (getD (p .sorts) x 0) x)) ≡ from 64 0 (λ x. bytesOf (objectAt (view p) x))
   objects-are = from-same 64 0 _ _ (λ x a b. ap bytesOf (object-is x (omega arith)))
 
-  pub memberships-are : from 64 0 (λ x. rowOf (p .members) x) ≡ from 64 0 (λ x. from 64 0 (λ g. bytesOf (membershipAt (view p) x g)))
+  pub memberships-are : from 64 0 (λ x. from 64 0 (λ g. bytesOf (membershipOf (has (getD (p .members) g 0) x) x g))) ≡ from 64 0 (λ x. from 64 0 (λ g. bytesOf (membershipAt (view p) x g)))
   unfolding membershipAt stored
   memberships-are = refl
 

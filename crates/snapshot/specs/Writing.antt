@@ -17,9 +17,9 @@ pub record Penned (buffer : Bytes) (pen : Pen) (text buffer′ : Bytes) (pen′ 
 abbrev pub fresh : Pen
 fresh = record { at = 0; needed = 0 }
 
--- The groups that x is directly in, as the rows of the members have them.
-abbrev pub rowOf : List ℕ → ℕ → Bytes
-rowOf members x = from 64 0 (λ g. bytesOf (membershipOf (has (getD members g 0) x) x g))
+-- The memberships of x in the groups of a set.
+abbrev pub rowOf : ℕ → ℕ → Bytes
+rowOf groups x = from 64 0 (λ g. bytesOf (membershipOf (has groups g) x g))
 
 -- All that is stored as directly in one of the first n, as a set.
 unfoldable pub storedAnywhere : ℕ → List ℕ → ℕ

@@ -1,11 +1,14 @@
 // The writer of a card. The same walk over the places measures the file, in a buffer of no bytes, and writes it.
-ghost use mathlib.Core.Bool.{false};
+ghost use mathlib.Core.Bool.{true, false};
 ghost use mathlib.Core.List.{[], _∷_};
 ghost use mathlib.Core.Path.{_≡_};
-ghost use Prim.Native.Nat.{_≤_};
-ghost use lib.ListN.{length};
+ghost use Prim.Native.Nat.{ℕ, _≤_, _<_};
+ghost use lib.ListN.{length, getD};
+ghost use Rattle.reach.specs.Words.{has, SetOf};
+ghost use Rattle.reach.specs.Tests.{Decides};
 ghost use Rattle.reach.specs.Tables.{view};
 ghost use Rattle.text.specs.Text.{Wrote};
+ghost use Rattle.soundness.specs.Soundness.{Sound};
 ghost use Rattle.snapshot.specs.Card.{bytesOf, objectAt, membershipAt, appointedAt, grantedAt, from, fileOf};
 ghost use Rattle.snapshot.specs.Answers.{Writes};
 ghost use Rattle.snapshot.specs.Writing.{Penned, rowOf, storedAnywhere, fresh};
@@ -100,21 +103,42 @@ fn stored_anywhere(members: &[u64; 64]) -> u64
     all
 }
 
-// The groups that x is directly in, if there are any.
-fn pen_row(members: &[u64; 64], some: bool, x: u8, out: &mut [u8], pen: Pen) -> Pen
-    requires { ⌜ pen .needed ≤ 90000 ⌝ }
-    requires { ⌜ (some ≡ false → rowOf (now members) x ≡ []) ⌝ }
-    ensures { λ r. ⌜ Penned (now (out .entry)) pen (rowOf (now (members .entry)) x) (now (out .exit)) r ⌝ }
+// The set of g alone where the test passed, and else of nothing.
+fn marked(passed: bool, g: u8) -> u64
+    requires { ⌜ g < 64 ⌝ }
+    ensures { λ r. ⌜ SetOf r (λ y. (y ≡ g) × (passed ≡ true)) ⌝ }
+{
+    if passed { 1u64 << g } else { 0 }
+}
+
+// The groups that x is directly in, as a set, if x is in any.
+fn groups_of(members: &[u64; 64], some: bool, x: u8) -> u64
+    requires { ⌜ (some ≡ false → (g : ℕ) → has (getD (now members) g 0) x ≡ false) ⌝ }
+    ensures { λ r. ⌜ SetOf r (λ g. (g < 64) × (has (getD (now (members .entry)) g 0) x ≡ true)) ⌝ }
 {
     if !some {
-        return pen;
+        return 0;
     }
-    let mut so_far = pen;
+    let mut set: u64 = 0;
     let mut g: u8 = 0;
     while g < 64 {
-        let e = membership_of(has(members[g as usize], x), x, g);
-        so_far = pen_entry(out, so_far, e);
+        set = set | marked(has(members[g as usize], x), g);
         g = g + 1;
+    }
+    set
+}
+
+// The memberships of x in these groups, the lowest first.
+fn pen_row(groups: u64, x: u8, out: &mut [u8], pen: Pen) -> Pen
+    requires { ⌜ pen .needed ≤ 90000 ⌝ }
+    ensures { λ r. ⌜ Penned (now (out .entry)) pen (rowOf groups x) (now (out .exit)) r ⌝ }
+{
+    let mut left = groups;
+    let mut so_far = pen;
+    while left != 0 {
+        let g = u64::trailing_zeros(left);
+        so_far = pen_entry(out, so_far, Entry::Membership(x, g as u8));
+        left = left & !(1u64 << g);
     }
     so_far
 }
@@ -130,7 +154,8 @@ fn pen_memberships(p: Policy, out: &mut [u8], pen: Pen) -> Pen
     let mut so_far = pen;
     let mut x: u8 = 0;
     while x < 64 {
-        so_far = pen_row(&members, has(anywhere, x), x, out, so_far);
+        let groups = groups_of(&members, has(anywhere, x), x);
+        so_far = pen_row(groups, x, out, so_far);
         x = x + 1;
     }
     so_far
@@ -186,6 +211,17 @@ fn file_length(p: Policy) -> usize
     pen_card(p, &mut none).needed
 }
 
+// Whether the file of a sound policy needs more bytes than there are. Bytes for the largest file are enough for any, and need no measuring.
+fn too_few(room: usize, p: Policy) -> bool
+    requires { ⌜ Sound (view p) ⌝ }
+    ensures { λ r. ⌜ Decides r (room < length (fileOf (view p))) ⌝ }
+{
+    if room >= 25376 {
+        return false;
+    }
+    room < file_length(p)
+}
+
 // Writes the file of a policy over the first of the lent bytes, or nothing: where the policy isn't sound, and then where the bytes are too
 // few.
 pub fn write_card(p: Policy, card: &mut [u8]) -> Written
@@ -197,16 +233,15 @@ pub fn write_card(p: Policy, card: &mut [u8]) -> Written
             length: 0,
         };
     }
-    let length = file_length(p);
-    if card.len() < length {
+    if too_few(card.len(), p) {
         return Written {
             status: Status::Short,
             length: 0,
         };
     }
-    pen_card(p, card);
+    let pen = pen_card(p, card);
     Written {
         status: Status::Done,
-        length,
+        length: pen.needed,
     }
 }
