@@ -37,7 +37,7 @@ pub fn membership_of(stored: bool, x: u8, g: u8) -> Entry
 pub fn appointed_of(w: Appointment, i: u8) -> Entry
     ensures { λ r. ⌜ r ≡ appointedOf w i ⌝ }
 {
-    if w.standing() {
+    if known(w.kind) {
         return Entry::Appointed(i, w.kind, w.holder, w.a, w.b);
     }
     Entry::Empty

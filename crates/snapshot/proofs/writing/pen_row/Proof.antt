@@ -1,11 +1,9 @@
+-- Group by group, the lowest first: what is left of the set has just the groups from a place on, and those before it are penned.
 use native.Mathlib.Omega.{arith}
 use Rattle.snapshot.proofs.Rowing.{rest-less, lowest-low, Rowing, rowing-start, rowing-needed, rowing-length, rowing-next, rowing-end}
 use borrow.Author.Needs.{needs}
 use Rattle.snapshot.proofs.writing.pen_row.Statement.{statement}
 use Rattle.snapshot.proofs.writing.pen_row.Tie as tie
-use Rattle.snapshot.proofs.writing.pen_row.Reads as reads
-use Rattle.snapshot.proofs.writing.pen_row.Lts as lts
-use Rattle.snapshot.proofs.writing.pen_entry.Reads as pen-entry-reads
 
 abbrev Inv-loop : tie.InvT-loop
 Inv-loop groups x out₀ left₀ so-far₀ out left so-far = Rowing groups x out₀ so-far₀ left out so-far
@@ -13,40 +11,31 @@ Inv-loop groups x out₀ left₀ so-far₀ out left so-far = Rowing groups x out
 abbrev μ-loop : tie.MeasureT-loop
 μ-loop groups x out₀ left₀ so-far₀ out left so-far = left
 
--- src/writing.rt:136:5
 loop-holds : tie.Need-loop-holds Inv-loop μ-loop
 loop-holds c = rowing-start _ _ _ _ (search needs)
 
--- src/writing.rt:138:62
 cast-t11 : tie.Need-cast-t11 Inv-loop μ-loop
 cast-t11 c = search (needs, lowest-low _ (c .before .loop-test .taken) (c .before .before .loop .inv .word))
 
--- src/writing.rt:138:9
 pen-entry-requires : tie.Need-pen-entry-requires Inv-loop μ-loop
 pen-entry-requires c κs =
     let few = rowing-needed _ _ (c .before .before .loop .inv) in omega (arith, few, c .before .before .before .before .pre)
 
--- src/writing.rt:139:33
 cast-left : tie.Need-cast-left Inv-loop μ-loop
 cast-left c = search (needs, lowest-low _ (c .before .before .before .before .loop-test .taken) (c .before .before .before .before .before .loop .inv .word))
 
--- src/writing.rt:139:25
 shl-left : tie.Need-shl-left Inv-loop μ-loop
 shl-left c = search (needs, lowest-low _ (c .before .before .before .before .loop-test .taken) (c .before .before .before .before .before .loop .inv .word))
 
--- src/writing.rt:136:5
 loop-less : tie.Need-loop-less Inv-loop μ-loop
 loop-less c = rest-less _ (c .before .before .before .before .loop-test .taken) (c .before .before .before .before .before .loop .inv .word)
 
--- src/writing.rt:136:5
 loop-again : tie.Need-loop-again Inv-loop μ-loop
 loop-again c = rowing-next _ _ (c .before .before .before .before .before .loop .inv) (c .before .before .before .before .loop-test .taken) (c .before .before .pen-entry .ensures)
 
--- src/writing.rt:130:1
 same-length : tie.Need-same-length Inv-loop μ-loop
 same-length c = rowing-length _ _ (c .before .loop .inv)
 
--- src/writing.rt:130:1
 returns : tie.Need-returns Inv-loop μ-loop
 returns c = rowing-end _ _ (c .before .loop .inv) (c .loop-test .left)
 
