@@ -1,24 +1,22 @@
 -- What `selkaum_write_card` and `selkaum_read_card` leave in their buffers: nothing where the sizes do not fit, and else what the writer and
 -- the reader answer on the policy of the picture, with its code.
 use mathlib.Core.Path.{_≡_, refl, sym, ap, subst, _∙_}
-use mathlib.Core.Bool.{true, false}
 use mathlib.Core.List.{List, [], _∷_, _++_}
 use Prim.Native.Nat.{ℕ, _+_, _≤_, _<_}
 use native.Mathlib.Omega.{arith}
-use lib.ListN.{length, set, drop, length-append}
+use lib.ListN.{length, set, length-append}
 use lib.Seq.{sets}
 use borrow.Author.Tests.{eq-eqb, ne-eqb, le-leb, lt-leb}
 use Rattle.reach.specs.declared.Policy.{Policy}
 use Rattle.reach.specs.Tables.{Sized}
 use Rattle.text.specs.Text.{Bytes}
 use Rattle.list.specs.Demand.{Demand3}
-use Rattle.list.specs.Filling.{over}
 use Rattle.snapshot.specs.declared.Status.the-variants.{Done}
 use Rattle.snapshot.specs.declared.Written.{Written}
 use Rattle.snapshot.specs.declared.Loaded.{Loaded}
 use Rattle.snapshot.specs.Answers.{codeOf, Writes, Reads}
 use Rattle.export.specs.Picture.{policyOf, pictureOf}
-use Rattle.export.specs.Carded.{writerFits, readerFits, CardWritten, CardRead}
+use Rattle.export.specs.Carded.{CardWritten, CardRead}
 use Rattle.export.proofs.Storing.{sets-append, sets-front}
 use Rattle.export.proofs.Picturing.{policy-sized, picture-length}
 

@@ -1,26 +1,25 @@
 -- Who reads a file as requests are read finds its records one after the other, and no torn place: the length field of each says how long it is. By
 -- induction on the places that are left, with what stands before them fixed.
-use mathlib.Core.Path.{_≡_, refl, sym, ap, ap₂, _∙_, subst}
-use mathlib.Core.Bool.{Bool, true, false, cond, false≢true}
-use mathlib.Core.Logic.{_⊎_, inl, inr}
+use mathlib.Core.Path.{_≡_, refl, sym, ap, ap₂, _∙_}
+use mathlib.Core.Bool.{true, false, false≢true}
+use mathlib.Core.Logic.{inl, inr}
 use mathlib.Core.List.{List, [], _∷_, _++_, append-assoc, append-nil}
-use Prim.Native.Nat.{ℕ, zero, suc, _+_, _≤_, _<_}
+use Prim.Native.Nat.{ℕ, zero, suc, _+_}
 use native.Mathlib.Omega.{arith}
 use lib.Dec.{leb, ltb}
 use lib.ListN.{length, take, drop, length-append}
 use lib.Seq.{drop-at, take-append-le, take-all}
-use borrow.Author.Tests.{lt-leb, le-ltb, lt-ltb}
-use Rattle.frame.specs.declared.Step.{Step}
+use borrow.Author.Tests.{lt-leb, le-ltb}
 use Rattle.frame.specs.declared.Step.the-variants.{Record, End}
 use Rattle.frame.specs.Fields.{lengthField}
-use Rattle.frame.specs.Reading.{torn, stepAt, recordBytes, recordsFrom, tornFrom}
+use Rattle.frame.specs.Reading.{stepAt, recordBytes, recordsFrom, tornFrom}
 use Rattle.frame.proofs.Steps.{end-step}
 use Rattle.frame.proofs.Records.{records-of-record, torn-of-record, records-of-end, torn-of-end}
 use Rattle.reach.specs.Tables.{View}
 use Rattle.text.specs.Text.{Bytes}
 use Rattle.snapshot.specs.declared.Entry.{Entry}
 use Rattle.snapshot.specs.declared.Entry.the-variants.{Object, Membership, Appointed, Granted, Empty}
-use Rattle.snapshot.specs.Card.{bytesOf, recordOf, from, inOrder, fileOf, Framed}
+use Rattle.snapshot.specs.Card.{bytesOf, recordOf, from, Framed}
 use Rattle.snapshot.specs.Loading.{places, entry, valid, sizeOf}
 use Rattle.snapshot.proofs.Records.{size-is, size-large}
 use Rattle.snapshot.proofs.Runs.{from-next, from-end}

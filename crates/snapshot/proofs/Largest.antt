@@ -1,21 +1,18 @@
 -- The file of a sound policy has at most 25,376 bytes: who owns an object is a user, and a user has no members, so every object is directly in 63
 -- groups at the most. A policy without objects has no memberships.
-use mathlib.Core.Path.{_≡_, refl, sym, ap, _∙_, subst}
-use mathlib.Core.Bool.{Bool, true, false, true≢false, false≢true}
-use mathlib.Core.Logic.{_⊎_, inl, inr, ⊎-elim}
+use mathlib.Core.Path.{_≡_, refl, ap, _∙_}
+use mathlib.Core.Bool.{Bool, true, false}
 use mathlib.Core.List.{List, [], _++_}
-use Prim.Native.Nat.{ℕ, zero, suc, _+_, _-_, _*_, _≤_, _<_}
+use Prim.Native.Nat.{ℕ, zero, suc, _+_, _-_, _≤_, _<_}
 use native.Mathlib.Omega.{arith}
 use lib.ListN.{length, length-append}
-use Rattle.reach.specs.Tests.{_⇒_∥_, Some}
+use Rattle.reach.specs.Tests.{_⇒_∥_}
 use Rattle.reach.specs.Tables.{View, standing}
 use Rattle.reach.specs.declared.Appointment.{Appointment}
 use Rattle.reach.specs.declared.AccessRule.{AccessRule}
-use Rattle.reach.specs.Reach.{InUse, User}
-use Rattle.rules.specs.Allowing.{Owned}
 use Rattle.soundness.specs.Soundness.{Sound}
 use Rattle.snapshot.specs.declared.Entry.the-variants.{Object, Membership, Appointed, Granted, Empty}
-use Rattle.snapshot.specs.Card.{known, bytesOf, objectOf, membershipOf, appointedOf, grantedOf}
+use Rattle.snapshot.specs.Card.{known, bytesOf}
 use Rattle.snapshot.specs.Card.{objectAt, membershipAt, appointedAt, grantedAt, from, inOrder, fileOf}
 use Rattle.snapshot.specs.Answers.{largest}
 use Rattle.snapshot.proofs.Runs.{from-next, from-append, from-length, from-none}

@@ -3,24 +3,23 @@
 use mathlib.Core.Path.{_≡_, refl, sym, ap, _∙_, subst}
 use mathlib.Core.Bool.{Bool, true, false}
 use mathlib.Core.List.{List, [], _++_}
-use Prim.Native.Nat.{ℕ, zero, suc, _+_, _*_, _≤_, _<_}
+use Prim.Native.Nat.{ℕ, _+_, _*_, _≤_, _<_}
 use native.Mathlib.Omega.{arith}
 use lib.Dec.{leb, ltb}
-use lib.ListN.{length, getD, take, drop, length-append}
+use lib.ListN.{length, getD, drop, length-append}
 use lib.Seq.{take-all}
 use Rattle.reach.specs.declared.Policy.{Policy}
 use Rattle.reach.specs.Tests.{_⇒_∥_}
 use Rattle.reach.specs.Words.{has}
 use Rattle.reach.specs.Tables.{view, counted, stored, appointment, rule, noAppointment, noRule}
 use Rattle.reach.proofs.Sorts.{sort-at}
-use Rattle.text.specs.Text.{Bytes, Wrote, Printed}
-use Rattle.text.proofs.Writing.{wrote-none, wrote-as, wrote-then, printed-of-wrote}
+use Rattle.text.specs.Text.{Bytes}
+use Rattle.text.proofs.Writing.{wrote-none, wrote-then, printed-of-wrote}
 use Rattle.list.specs.Filling.{over}
 use Rattle.snapshot.specs.declared.Entry.{Entry}
 use Rattle.snapshot.specs.declared.Pen.{Pen}
 use Rattle.snapshot.specs.declared.Entry.the-variants.{Object, Empty}
 use Rattle.snapshot.specs.Card.{bytesOf, objectOf, membershipOf, appointedOf, grantedOf, objectAt, membershipAt, appointedAt, grantedAt, from}
-use Rattle.snapshot.specs.Loading.{sizeOf}
 use Rattle.snapshot.specs.Writing.{Penned, fresh}
 use Rattle.snapshot.proofs.Records.{size-is, size-small}
 use Rattle.snapshot.proofs.Runs.{from-end, from-same, from-more, from-length}

@@ -3,8 +3,8 @@
 use mathlib.Core.Path.{_≡_, refl, sym, ap, ap₂, _∙_}
 use mathlib.Core.Bool.{Bool, true, false}
 use mathlib.Core.Logic.{_⊎_, inl, inr}
-use mathlib.Core.List.{List, [], _∷_, _++_, append-assoc}
-use Prim.Native.Nat.{ℕ, zero, suc, _+_, _-_, _*_, _/_, _%_, _≤_, _<_}
+use mathlib.Core.List.{List, _++_, append-assoc}
+use Prim.Native.Nat.{ℕ, _+_, _-_, _*_, _/_, _%_, _<_}
 use native.Mathlib.Omega.{arith}
 use lib.Dec.{ltb}
 use borrow.Author.Tests.{ltb-true, ltb-false, lt-ltb, le-ltb}
@@ -12,9 +12,8 @@ use Rattle.reach.specs.declared.Appointment.{Appointment}
 use Rattle.reach.specs.declared.AccessRule.{AccessRule}
 use Rattle.reach.specs.Tests.{_⇒_∥_}
 use Rattle.reach.specs.Tables.{View, standing}
-use Rattle.text.specs.Text.{Bytes}
 use Rattle.snapshot.specs.declared.Entry.{Entry}
-use Rattle.snapshot.specs.declared.Entry.the-variants.{Object, Membership, Appointed, Granted, Empty}
+use Rattle.snapshot.specs.declared.Entry.the-variants.{Object, Appointed, Granted, Empty}
 use Rattle.snapshot.specs.Card.{known, bytesOf, objectOf, membershipOf, appointedOf, grantedOf}
 use Rattle.snapshot.specs.Card.{objectAt, membershipAt, appointedAt, grantedAt, from, inOrder, fileOf}
 use Rattle.snapshot.specs.Loading.{places, numberOf, entry, valid}

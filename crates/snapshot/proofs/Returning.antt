@@ -3,7 +3,7 @@
 use mathlib.Core.Path.{_≡_, refl, sym, ap, _∙_, subst}
 use mathlib.Core.Bool.{true, false}
 use mathlib.Core.Logic.{inl, inr}
-use mathlib.Core.List.{List, [], _∷_, _++_}
+use mathlib.Core.List.{[], _++_}
 use Prim.Native.Nat.{ℕ, zero, suc, _+_, _≤_, _<_}
 use native.Mathlib.Nat.{le-refl, not-suc-le-zero}
 use native.Mathlib.Decide.{decLe}
@@ -19,7 +19,7 @@ use Rattle.snapshot.specs.declared.Entry.{Entry}
 use Rattle.snapshot.specs.declared.Entry.the-variants.{Empty}
 use Rattle.snapshot.specs.declared.Loaded.{Loaded}
 use Rattle.snapshot.specs.Card.{bytesOf, from, fileOf}
-use Rattle.snapshot.specs.Loading.{places, numberOf, entry, front, valid, sizeOf, store, blank, loaded, load}
+use Rattle.snapshot.specs.Loading.{places, numberOf, entry, valid, sizeOf, store, blank, loaded, load}
 use Rattle.snapshot.proofs.Records.{size-is, size-large, front-back}
 use Rattle.snapshot.proofs.Runs.{from-next, from-end}
 use Rattle.snapshot.proofs.Places.{Fits, entry-fits, each, file-is}

@@ -2,7 +2,7 @@
 -- so the places up to the next one give nothing.
 use mathlib.Core.Path.{_≡_, refl, sym, ap, _∙_}
 use mathlib.Core.Bool.{Bool, true, false, true≢false}
-use mathlib.Core.Logic.{_⊎_, inl, inr, ⊎-elim}
+use mathlib.Core.Logic.{_⊎_, inl, inr}
 use mathlib.Core.List.{List, [], _++_, append-nil}
 use Prim.Native.Nat.{ℕ, zero, suc, _+_, _-_, _*_, _/_, _%_, _^_, _≤_, _<_}
 use native.Mathlib.Nat.{not-suc-le-zero, le-of-suc-le-suc}
@@ -21,7 +21,7 @@ use Rattle.reach.proofs.Bits.{bit-at-zero, bit-suc, bit-zero, lowest-bit}
 use Rattle.reach.proofs.OneBit.{has-without, and-is-without}
 use Rattle.reach.proofs.WordSets.{has-decides, has-is, below-next}
 use Rattle.text.specs.Text.{Bytes}
-use Rattle.snapshot.specs.declared.Entry.the-variants.{Membership, Empty}
+use Rattle.snapshot.specs.declared.Entry.the-variants.{Membership}
 use Rattle.snapshot.specs.declared.Pen.{Pen}
 use Rattle.snapshot.specs.Card.{bytesOf, membershipOf, from}
 use Rattle.snapshot.specs.Writing.{Penned, rowOf}

@@ -3,7 +3,7 @@
 use mathlib.Core.Path.{_≡_, refl, sym, ap, _∙_}
 use mathlib.Core.Bool.{Bool, true, false, _&&_}
 use mathlib.Core.Logic.{_⊎_, inl, inr}
-use mathlib.Core.List.{List, [], _∷_, _++_}
+use mathlib.Core.List.{[], _∷_, _++_}
 use Prim.Native.Nat.{ℕ, zero, suc, _+_, _-_, _≤_, _<_}
 use native.Mathlib.Nat.{le-refl}
 use native.Mathlib.Omega.{arith}
@@ -17,7 +17,7 @@ use Rattle.reach.specs.Tables.{view, Sized}
 use Rattle.text.specs.Text.{Bytes}
 use Rattle.snapshot.specs.declared.Entry.{Entry}
 use Rattle.snapshot.specs.declared.Entry.the-variants.{Empty}
-use Rattle.snapshot.specs.declared.Status.the-variants.{Done, Damaged}
+use Rattle.snapshot.specs.declared.Status.the-variants.{Done}
 use Rattle.snapshot.specs.declared.Loaded.{Loaded}
 use Rattle.snapshot.specs.Card.{bytesOf, from, fileOf, Zeroed}
 use Rattle.snapshot.specs.Loading.{places, numberOf, entry, front, valid, sizeOf, store, blank, loaded, damage, load}

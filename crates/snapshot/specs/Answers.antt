@@ -1,6 +1,5 @@
 -- What the writer of a card and its reader answer.
 use mathlib.Core.Path.{_≡_}
-use mathlib.Core.List.{List}
 use Prim.Native.Nat.{ℕ, _≤_, _<_}
 use lib.ListN.{length}
 use Rattle.reach.specs.declared.Policy.{Policy}

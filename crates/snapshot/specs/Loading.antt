@@ -1,15 +1,13 @@
 -- How the reader goes, for the contracts of its parts: every place has a number in the order of the file, and a record whose number does not
 -- rise is damage. What it answers is said in Answers, with no word of this.
 use mathlib.Core.Bool.{Bool, false, _&&_}
-use mathlib.Core.List.{List}
 use Prim.Native.Nat.{ℕ, zero, suc, _+_, _-_, _*_, _/_, _%_}
 use lib.Dec.{eqb, leb, ltb}
 use lib.ListN.{length, set, drop, replicate}
 use Rattle.frame.specs.Fields.{byte, lengthField, kindField}
 use Rattle.reach.specs.declared.Policy.{Policy}
-use Rattle.reach.specs.declared.Appointment.{Appointment}
 use Rattle.reach.specs.Tests.{_⇒_∥_}
-use Rattle.reach.specs.Tables.{View, noAppointment, noRule, standing}
+use Rattle.reach.specs.Tables.{View, noAppointment, noRule}
 use Rattle.reach.specs.Successors.{withSorts, put, appointed, granted}
 use Rattle.text.specs.Text.{Bytes}
 use Rattle.snapshot.specs.declared.Entry.{Entry}
