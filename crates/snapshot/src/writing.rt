@@ -222,22 +222,23 @@ fn too_few(room: usize, p: Policy) -> bool
     room < file_length(p)
 }
 
+// Nothing is written.
+fn refused(status: Status) -> Written
+    ensures { λ r. ⌜ r ≡ record { status = status; length = 0 } ⌝ }
+{
+    Written { status, length: 0 }
+}
+
 // Writes the file of a policy over the first of the lent bytes, or nothing: where the policy isn't sound, and then where the bytes are too
 // few.
 pub fn write_card(p: Policy, card: &mut [u8]) -> Written
     ensures { λ r. ⌜ Writes p (now (card .entry)) (now (card .exit)) r ⌝ }
 {
     if !is_sound(p) {
-        return Written {
-            status: Status::Damaged,
-            length: 0,
-        };
+        return refused(Status::Damaged);
     }
     if too_few(card.len(), p) {
-        return Written {
-            status: Status::Short,
-            length: 0,
-        };
+        return refused(Status::Short);
     }
     let pen = pen_card(p, card);
     Written {
