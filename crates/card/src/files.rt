@@ -56,8 +56,8 @@ fn put_beside(name: &[u8], beside: &mut [u8]) -> usize
     put_bytes(beside, after_name, b".XXXXXX")
 }
 
-// Writes the card to a new file beside the one of that name, and puts it in its place. Whatever fails leaves the old card there and no new
-// file, and a line on standard error says why.
+// Writes the card to a new file beside the one of that name, and puts it in its place once the system has stored it, so that a power cut
+// finds the old card there or the new one, whole. If anything fails, a line on standard error says why, and the new file is removed.
 pub fn replace(name: &[u8], card: &[u8]) -> bool {
     let mut beside = [0u8; 4096];
     let end = put_beside(name, &mut beside);
