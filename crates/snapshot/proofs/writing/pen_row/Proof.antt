@@ -1,8 +1,5 @@
 -- Group by group, the lowest first: what is left of the set has just the groups from a place on, and those before it are penned.
-use mathlib.Core.Path.{ap}
 use native.Mathlib.Omega.{arith}
-use Rattle.snapshot.specs.Card.{bytesOf}
-use Rattle.snapshot.proofs.Penning.{penned-as}
 use Rattle.snapshot.proofs.Rowing.{rest-less, lowest-low, Rowing, rowing-start, rowing-needed, rowing-length, rowing-next, rowing-end}
 use borrow.Author.Needs.{needs}
 use Rattle.snapshot.proofs.writing.pen_row.Statement.{statement}
@@ -35,7 +32,7 @@ loop-less c = rest-less _ (c .before .before .before .before .loop-test .taken) 
 
 loop-again : tie.Need-loop-again Inv-loop μ-loop
 loop-again c = rowing-next _ _ (c .before .before .before .before .before .loop .inv) (c .before .before .before .before .loop-test .taken)
-    (penned-as (ap bytesOf (search needs)) (c .before .before .pen-entry .ensures))
+    (search (needs, c .before .before .pen-entry .ensures))
 
 same-length : tie.Need-same-length Inv-loop μ-loop
 same-length c = rowing-length _ _ (c .before .loop .inv)
