@@ -71,6 +71,41 @@ size_t selkaum_gain(const uint8_t *policy, size_t policy_len,
                     const uint8_t *record, size_t record_len,
                     uint8_t *gain, size_t gain_len);
 
+/* A policy on a card. The file of a policy is records, framed as requests are: a two-byte length of the whole record and a two-byte kind,
+ * little-endian, then a byte each:
+ *
+ *     16 object      number, sort                         6 bytes
+ *     17 membership  object, group                        6 bytes
+ *     18 appointment place, kind, holder, A, B            9 bytes
+ *     19 rule        place, U, T, operations              8 bytes
+ *
+ * They stand rising by kind, then by number or place; memberships by object, then group. Only what is in use has a record. A policy is sound
+ * if every stored membership is of an object in use in a group, every appointment in use has a member (user) as holder, a group A, and a
+ * group B (kind 3) or B 0 (kinds 1 and 2), every rule in use has groups U and T and some operation, and every object in use has an owner.
+ * Every policy that the board comes to from the founding is sound. A policy with nothing in use is sound too, and its file has no bytes: a
+ * refusal is told by the code, and never by a length of 0.
+ */
+#define SELKAUM_LARGEST_CARD 25376
+#define SELKAUM_CARD_ANSWER_BYTES 961
+
+/* Writes the file of a policy over the first bytes of `card`, and the code into `code[0]`: 0 done, 13 the policy is not sound, or else 14 the
+ * file has more than `card_len` bytes. With 13 and 14 nothing of `card` is written. Bytes behind the file, and behind the code, stay as they
+ * are. Returns the length of the file, 0 when refused. If `policy_len` is not 960, or `code_len` is 0, it writes nothing at all and returns
+ * 0. A card of SELKAUM_LARGEST_CARD bytes has room for the file of every sound policy.
+ */
+size_t selkaum_write_card(const uint8_t *policy, size_t policy_len,
+                          uint8_t *card, size_t card_len,
+                          uint8_t *code, size_t code_len);
+
+/* Reads a card on a board that has the policy `policy`, and writes the picture of the policy after it and, at 960, the code over the first
+ * 961 bytes of `answer`; those behind them stay as they are. The code is 0 if the bytes are the file of a sound policy, to the last byte: the
+ * policy after is then that one, with zeros in its empty places. Any other bytes are damaged: the code is 13, and the policy after is the one
+ * that the board had. Returns 961. If `policy_len` is not 960, or `answer_len` is less than 961, it writes nothing and returns 0.
+ */
+size_t selkaum_read_card(const uint8_t *policy, size_t policy_len,
+                         const uint8_t *card, size_t card_len,
+                         uint8_t *answer, size_t answer_len);
+
 #ifdef __cplusplus
 }
 #endif
