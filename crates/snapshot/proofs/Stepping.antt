@@ -1,25 +1,28 @@
 -- The loop of the reader: what is left to read, from the policy so far and the next number on, comes to what the whole card comes to. Each record
 -- that is stored takes one step of `load`.
 use mathlib.Core.Path.{_≡_, refl, sym, ap, _∙_}
-use mathlib.Core.Bool.{Bool, true, false, _&&_}
+use mathlib.Core.Bool.{Bool, true, false, _&&_, false≢true}
 use mathlib.Core.Logic.{_≢_}
-use mathlib.Core.List.{_++_}
+use mathlib.Core.List.{List, _++_}
 use Prim.Native.Nat.{ℕ, zero, suc, _+_, _-_, _≤_, _<_}
 use native.Mathlib.Nat.{le-refl}
 use native.Mathlib.Numerals.{add-one}
 use native.Mathlib.Omega.{arith}
-use lib.Dec.{eqb, leb}
-use lib.ListN.{length, take, drop, length-drop, length-append}
+use lib.Dec.{eqb, leb, ltb}
+use lib.ListN.{length, take, drop, replicate, length-drop, length-append}
 use lib.Seq.{take-all, drop-drop}
-use borrow.Author.Tests.{eq-eqb, ne-eqb, le-leb, lt-leb}
+use borrow.Author.Tests.{eq-eqb, ne-eqb, le-leb, lt-leb, leb-true, ltb-true}
 use Rattle.reach.specs.declared.Policy.{Policy}
 use Rattle.reach.specs.Tests.{_⇒_∥_}
+use Rattle.reach.specs.Successors.{put}
 use Rattle.text.specs.Text.{Bytes}
 use Rattle.snapshot.specs.declared.Entry.{Entry}
 use Rattle.snapshot.specs.declared.Loaded.{Loaded}
+use Rattle.snapshot.specs.declared.Entry.the-variants.{Object, Membership, Appointed, Granted, Empty}
 use Rattle.snapshot.specs.Card.{bytesOf}
-use Rattle.snapshot.specs.Loading.{places, numberOf, front, valid, sizeOf, store, blank, loaded, damage, load}
-use Rattle.snapshot.proofs.Records.{and-off, size-is, size-large, front-whole, number-low}
+use Rattle.snapshot.specs.Loading.{places, numberOf, front, valid, sizeOf, store, blank, loaded, damage, load, PartRead}
+use Rattle.snapshot.specs.Loading.{low, sortsWith, membersWith, fitsLow, ofTables}
+use Rattle.snapshot.proofs.Records.{and-both, and-off, size-is, size-large, front-whole, number-low}
 
 -- ---- One step of `load`
 
@@ -45,16 +48,10 @@ number-small e v = number-low e v
 
 -- ---- The loop
 
-pub record Loading (kept : Policy) (b : Bytes) (p : Policy) (n at : ℕ) : Type 0 where
-  pub within : at ≤ length b
-  pub left : ℕ
-  pub enough : length b ≤ at + left
-  pub whole : load kept left p n (drop at b) ≡ load kept (length b) blank 0 b
-
-pub loading-start : (kept : Policy) (b : Bytes) (p : Policy) → p ≡ blank → Loading kept b p 0 0
+pub loading-start : (kept : Policy) (b : Bytes) (p : Policy) → p ≡ blank → PartRead kept b p 0 0
 loading-start kept b p e = record { within = omega arith; left = length b; enough = omega arith; whole = rw e }
 
-module _ {kept : Policy} {b : Bytes} {p : Policy} {n at : ℕ} (w : Loading kept b p n at) where
+module _ {kept : Policy} {b : Bytes} {p : Policy} {n at : ℕ} (w : PartRead kept b p n at) where
   pub loading-end : length b ≤ at → loaded p ≡ load kept (length b) blank 0 b
   loading-end l = sym (load-done kept p (w .left) n (drop at b) (simp length-drop (omega arith))) ∙ w .whole
 
@@ -96,7 +93,7 @@ module _ {kept : Policy} {b : Bytes} {p : Policy} {n at : ℕ} (w : Loading kept
         )
 
     pub loading-next : (k m : ℕ) (t : Policy) → valid e ≡ true → k ≡ numberOf e → n ≤ k → m ≡ sizeOf e → t ≡ store p e
-        → Loading kept b t (k + 1) (at + m)
+        → PartRead kept b t (k + 1) (at + m)
     loading-next k m t v q l z x =
         record {
           within = omega (arith, record-inside v);
@@ -106,3 +103,46 @@ module _ {kept : Policy} {b : Bytes} {p : Policy} {n at : ℕ} (w : Loading kept
               rw (x, add-one, q, z, ← drop-drop (sizeOf e) at b)
               (rw (v, le-leb n (numberOf e) (omega arith)) at (step (w .left) refl));
         }
+
+-- ---- The records that a file begins with
+
+-- A membership has its two places.
+pub membership-low : {e : Entry} {x g : ℕ} → e ≡ Membership x g → valid e ≡ true → (x < 64) × (g < 64)
+membership-low {e} {x} {g} q h =
+    let w = and-both (ltb x 64) (ltb g 64) (rw q at h) in (ltb-true x 64 (w .0), ltb-true g 64 (w .1))
+
+-- Stored in the two tables, it is stored in their policy.
+store-low : (sorts members : List ℕ) (e : Entry) → low e ≡ true → valid e ≡ true
+    → ofTables (sortsWith sorts e) (membersWith members e) ≡ store (ofTables sorts members) e
+unfolding put
+store-low sorts members (Object x s) l v = refl
+store-low sorts members (Membership x g) l v = rw v
+store-low sorts members (Appointed i k h a b) l v = absurd (false≢true l)
+store-low sorts members (Granted i u t o) l v = absurd (false≢true l)
+store-low sorts members Empty l v = absurd (false≢true l)
+
+pub low-start : (b : Bytes) (sorts members : List ℕ) → sorts ≡ replicate 64 0 → members ≡ replicate 64 0
+    → (kept : Policy) → PartRead kept b (ofTables sorts members) 0 0
+unfolding blank
+low-start b sorts members s m kept = loading-start kept b (ofTables sorts members) (rw (s, m))
+
+module _ (e : Entry) (n : ℕ) (f : fitsLow e n ≡ true) where
+  parts : (low e ≡ true) × (valid e ≡ true) × (n ≤ numberOf e)
+  parts =
+      let a = and-both (low e && valid e) (leb n (numberOf e)) f in
+      let c = and-both (low e) (valid e) (a .0) in (c .0, c .1, leb-true n (numberOf e) (a .1))
+
+  pub fits-valid : valid e ≡ true
+  fits-valid = parts .1
+
+  module _ {b : Bytes} {sorts members : List ℕ} {at : ℕ} (w : (kept : Policy) → PartRead kept b (ofTables sorts members) n at)
+      (inside : at < length b) (r : e ≡ front (take (length b - at) (drop at b)))
+    where
+      pub low-inside : (at + sizeOf e ≤ length b) × (1 ≤ sizeOf e)
+      low-inside = record-inside (w blank) e inside (from-part b at r) fits-valid
+
+      pub low-next : (k m : ℕ) (s t : List ℕ) → k ≡ numberOf e → m ≡ sizeOf e → s ≡ sortsWith sorts e → t ≡ membersWith members e
+          → (kept : Policy) → PartRead kept b (ofTables s t) (k + 1) (at + m)
+      low-next k m s t q z x y kept =
+          loading-next (w kept) e inside (from-part b at r) k m (ofTables s t) fits-valid q (omega (arith, parts .2)) z
+          (rw (x, y) (store-low sorts members e (parts .0) fits-valid))

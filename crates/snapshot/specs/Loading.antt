@@ -1,8 +1,9 @@
 -- How the reader goes, for the contracts of its parts: every place has a number in the order of the file, and a record whose number does not
 -- rise is damage. What it answers is said in Answers, with no word of this.
-use mathlib.Core.Bool.{Bool, false, _&&_}
+use mathlib.Core.Path.{_≡_}
+use mathlib.Core.Bool.{Bool, true, false, _&&_}
 use mathlib.Core.List.{List}
-use Prim.Native.Nat.{ℕ, zero, suc, _+_, _-_, _*_, _/_, _%_}
+use Prim.Native.Nat.{ℕ, zero, suc, _+_, _-_, _*_, _/_, _%_, _≤_}
 use lib.Dec.{eqb, leb, ltb}
 use lib.ListN.{length, set, drop, replicate}
 use Rattle.frame.specs.Fields.{byte, lengthField, kindField}
@@ -10,7 +11,7 @@ use Rattle.reach.specs.declared.Policy.{Policy}
 use Rattle.reach.specs.declared.Appointment.{Appointment}
 use Rattle.reach.specs.Tests.{_⇒_∥_}
 use Rattle.reach.specs.Tables.{View, noAppointment, noRule, standing}
-use Rattle.reach.specs.Successors.{withSorts, put, appointed, granted}
+use Rattle.reach.specs.Successors.{withSorts, addTo, put, appointed, granted}
 use Rattle.text.specs.Text.{Bytes}
 use Rattle.snapshot.specs.declared.Entry.{Entry}
 use Rattle.snapshot.specs.declared.Entry.the-variants.{Object, Membership, Appointed, Granted, Empty}
@@ -97,3 +98,42 @@ load kept (suc l) p n b =
     valid (front b) && leb n (numberOf (front b)) ⇒
     load kept l (store p (front b)) (suc (numberOf (front b))) (drop (sizeOf (front b)) b) ∥
     damage kept
+
+-- Where the reader is: what is left to read from the place `at` on, into the policy p and with n as the least number, comes to what the whole
+-- file comes to.
+pub record PartRead (kept : Policy) (b : Bytes) (p : Policy) (n at : ℕ) : Type 0 where
+  pub within : at ≤ length b
+  pub left : ℕ
+  pub enough : length b ≤ at + left
+  pub whole : load kept left p n (drop at b) ≡ load kept (length b) blank 0 b
+
+-- The records that a file begins with, of objects and of memberships, change these two tables alone.
+abbrev pub low : Entry → Bool
+low (Object x s) = true
+low (Membership x g) = true
+low (Appointed i k h a b) = false
+low (Granted i u t o) = false
+low Empty = false
+
+abbrev pub sortsWith : List ℕ → Entry → List ℕ
+sortsWith l (Object x s) = set l x s
+sortsWith l (Membership x g) = l
+sortsWith l (Appointed i k h a b) = l
+sortsWith l (Granted i u t o) = l
+sortsWith l Empty = l
+
+abbrev pub membersWith : List ℕ → Entry → List ℕ
+membersWith l (Object x s) = l
+membersWith l (Membership x g) = addTo l x g
+membersWith l (Appointed i k h a b) = l
+membersWith l (Granted i u t o) = l
+membersWith l Empty = l
+
+-- One of them that can be stored where n is the least number.
+abbrev pub fitsLow : Entry → ℕ → Bool
+fitsLow e n = low e && valid e && leb n (numberOf e)
+
+-- The policy of the two tables, with no appointment and no rule.
+abbrev pub ofTables : List ℕ → List ℕ → Policy
+ofTables sorts members =
+    record { sorts = sorts; members = members; appointments = replicate 32 noAppointment; rules = replicate 64 noRule }

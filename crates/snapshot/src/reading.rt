@@ -4,13 +4,14 @@ ghost use mathlib.Core.Path.{_≡_};
 ghost use mathlib.Core.Bool.{true};
 ghost use mathlib.Core.List.{List};
 ghost use Prim.Native.Nat.{_<_};
-ghost use lib.ListN.{length, set};
+ghost use lib.ListN.{length, set, replicate};
 ghost use Rattle.reach.specs.Successors.{withSorts};
 ghost use Rattle.text.specs.Text.{Bytes};
 ghost use Rattle.list.specs.Demand.{Demand3};
 ghost use Rattle.snapshot.specs.declared.Status.the-variants.{Done};
 ghost use Rattle.snapshot.specs.Answers.{Reads};
 ghost use Rattle.snapshot.specs.Loading.{headed, front, valid, store, blank, load};
+ghost use Rattle.snapshot.specs.Loading.{low, sortsWith, membersWith, fitsLow, ofTables, PartRead};
 use crate::Entry;
 use crate::Loaded;
 use crate::Status;
@@ -79,13 +80,79 @@ fn store(p: Policy, e: Entry) -> Policy
     }
 }
 
-// The policy with nothing in it.
-fn blank() -> Policy
-    ensures { λ r. ⌜ r ≡ blank ⌝ }
+// Whether the record is an object or a membership.
+fn is_low(e: Entry) -> bool
+    ensures { λ r. ⌜ r ≡ low e ⌝ }
+{
+    match e {
+        Entry::Object(_, _) => true,
+        Entry::Membership(_, _) => true,
+        Entry::Appointed(_, _, _, _, _) => false,
+        Entry::Granted(_, _, _, _) => false,
+        Entry::Empty => false,
+    }
+}
+
+// Whether it is one that can be stored where n is the least number.
+fn fits_low(e: Entry, n: usize) -> bool
+    ensures { λ r. ⌜ r ≡ fitsLow e n ⌝ }
+{
+    is_low(e) & e.valid() & (n <= e.number())
+}
+
+// Stores an object or a membership in its table; a record of another kind changes neither.
+fn store_low(sorts: &mut [u8; 64], members: &mut [u64; 64], e: Entry)
+    requires { ⌜ valid e ≡ true ⌝ }
+    ensures { λ r. ⌜ now (sorts .exit) ≡ sortsWith (now (sorts .entry)) e ⌝ }
+    ensures { λ r. ⌜ now (members .exit) ≡ membersWith (now (members .entry)) e ⌝ }
+{
+    match e {
+        Entry::Object(x, s) => {
+            sorts[x as usize] = s;
+        }
+        Entry::Membership(x, g) => {
+            let i = g as usize;
+            members[i] = members[i] | (1u64 << x);
+        }
+        Entry::Appointed(_, _, _, _, _) => {}
+        Entry::Granted(_, _, _, _) => {}
+        Entry::Empty => {}
+    }
+}
+
+// Where the reader goes on: the least number of the next record, and its place in the card.
+struct Mark {
+    n: usize,
+    at: usize,
+}
+
+// Stores the objects and memberships that the card begins with, up to the first record that is of another kind or can't be stored.
+fn load_low(card: &[u8], sorts: &mut [u8; 64], members: &mut [u64; 64]) -> Mark
+    requires { ⌜ now sorts ≡ replicate 64 0 ⌝ }
+    requires { ⌜ now members ≡ replicate 64 0 ⌝ }
+    ensures { λ r. ⌜ ((kept : Policy) → PartRead kept (now (card .entry)) (ofTables (now (sorts .exit)) (now (members .exit))) (r .n) (r .at)) ⌝ }
+{
+    let mut n: usize = 0;
+    let mut at: usize = 0;
+    while at < card.len() {
+        let e = front(&card[at..]);
+        if !fits_low(e, n) {
+            return Mark { n, at };
+        }
+        store_low(sorts, members, e);
+        n = e.number() + 1;
+        at = at + e.size();
+    }
+    Mark { n, at }
+}
+
+// The policy of the two tables, with no appointment and no rule.
+fn of_tables(sorts: [u8; 64], members: [u64; 64]) -> Policy
+    ensures { λ r. ⌜ r ≡ ofTables sorts members ⌝ }
 {
     Policy {
-        sorts: [0; 64],
-        members: [0; 64],
+        sorts,
+        members,
         appointments: [Appointment {
             kind: 0,
             holder: 0,
@@ -101,13 +168,16 @@ fn blank() -> Policy
     }
 }
 
-// The records of the card, stored in the empty policy.
+// The records of the card, stored in the empty policy: objects and memberships in tables apart, and what comes after them in the policy.
 fn load(kept: Policy, card: &[u8]) -> Loaded
     ensures { λ r. ⌜ r ≡ load kept (length (now (card .entry))) blank 0 (now (card .entry)) ⌝ }
 {
-    let mut p = blank();
-    let mut n: usize = 0;
-    let mut at: usize = 0;
+    let mut sorts: [u8; 64] = [0; 64];
+    let mut members: [u64; 64] = [0; 64];
+    let mark = load_low(card, &mut sorts, &mut members);
+    let mut p = of_tables(sorts, members);
+    let mut n = mark.n;
+    let mut at = mark.at;
     while at < card.len() {
         let e = front(&card[at..]);
         if !e.valid() {

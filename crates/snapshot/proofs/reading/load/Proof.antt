@@ -3,7 +3,9 @@ use Prim.Native.Nat.{_-_}
 use native.Mathlib.Omega.{arith}
 use lib.ListN.{length}
 use borrow.Author.Tests.{not-true, not-false}
-use Rattle.snapshot.proofs.Stepping.{from-part, number-small, Loading, loading-start, loading-end, loading-unfit, loading-fallen, record-inside, loading-next}
+use Rattle.reach.specs.declared.Policy.{Policy}
+use Rattle.snapshot.specs.Loading.{PartRead}
+use Rattle.snapshot.proofs.Stepping.{from-part, number-small, loading-end, loading-unfit, loading-fallen, record-inside, loading-next}
 use borrow.Author.Needs.{needs}
 use Rattle.snapshot.proofs.reading.load.Statement.{statement}
 use Rattle.snapshot.proofs.reading.load.Tie as tie
@@ -12,23 +14,27 @@ use Rattle.snapshot.proofs.reading.load.Lts as lts
 use Rattle.snapshot.proofs.Entry.number.Reads as number-reads
 use Rattle.snapshot.proofs.Entry.size.Reads as size-reads
 use Rattle.snapshot.proofs.Entry.valid.Reads as valid-reads
-use Rattle.snapshot.proofs.reading.blank.Reads as blank-reads
+use Rattle.snapshot.proofs.reading.load_low.Reads as load-low-reads
+use Rattle.snapshot.proofs.reading.of_tables.Reads as of-tables-reads
 use Rattle.snapshot.proofs.reading.front.Reads as front-reads
 use Rattle.snapshot.proofs.reading.store.Reads as store-reads
 
 abbrev Inv-loop : tie.InvT-loop
-Inv-loop kept card p₀ n₀ at₀ p n at = Loading kept card p n at
+Inv-loop kept card p₀ n₀ at₀ p n at = PartRead kept card p n at
 
 abbrev μ-loop : tie.MeasureT-loop
 μ-loop kept card p₀ n₀ at₀ p n at = length card - at
 
 -- src/reading.rt:108:9
-blank-requires : tie.Need-blank-requires Inv-loop μ-loop
-blank-requires c κs = search needs
+load-low-requires : tie.Need-load-low-requires Inv-loop μ-loop
+load-low-requires c κs = search needs
+
+of-tables-requires : tie.Need-of-tables-requires Inv-loop μ-loop
+of-tables-requires c κs = search needs
 
 -- src/reading.rt:111:5
 loop-holds : tie.Need-loop-holds Inv-loop μ-loop
-loop-holds c = loading-start _ _ _ (c .blank .ensures)
+loop-holds c = rw (c .of-tables .ensures) (c .before .load-low .ensures (c .before .before .before .before .before .args .kept))
 
 -- src/reading.rt:112:23
 sub-front : tie.Need-sub-front Inv-loop μ-loop
@@ -53,7 +59,7 @@ valid-requires c κs = search needs
 -- src/reading.rt:114:13
 returns : tie.Need-returns Inv-loop μ-loop
 returns c =
-    loading-unfit (c .before .before .before .before .before .loop .inv) _ (c .before .before .before .before .loop-test .taken) (from-part (c .before .before .before .before .before .before .before .before .args .card .now) (c .before .before .before .before .before .loop .at) (c .before .before .front .ensures)) (sym (c .before .valid .ensures) ∙ not-true _ (c .if1 .taken))
+    loading-unfit (c .before .before .before .before .before .loop .inv) _ (c .before .before .before .before .loop-test .taken) (from-part (c .before .before .before .before .before .before .before .before .before .before .before .args .card .now) (c .before .before .before .before .before .loop .at) (c .before .before .front .ensures)) (sym (c .before .valid .ensures) ∙ not-true _ (c .if1 .taken))
 
 -- src/reading.rt:116:13
 number-requires : tie.Need-number-requires Inv-loop μ-loop
@@ -62,7 +68,7 @@ number-requires c κs = search needs
 -- src/reading.rt:118:13
 returns-2 : tie.Need-returns-2 Inv-loop μ-loop
 returns-2 c =
-    loading-fallen (c .before .before .before .before .before .before .before .loop .inv) _ (c .before .before .before .before .before .before .loop-test .taken) (from-part (c .before .before .before .before .before .before .before .before .before .before .args .card .now) (c .before .before .before .before .before .before .before .loop .at) (c .before .before .before .before .front .ensures)) _ (c .before .number .ensures) (c .if2 .taken)
+    loading-fallen (c .before .before .before .before .before .before .before .loop .inv) _ (c .before .before .before .before .before .before .loop-test .taken) (from-part (c .before .before .before .before .before .before .before .before .before .before .before .before .before .args .card .now) (c .before .before .before .before .before .before .before .loop .at) (c .before .before .before .before .front .ensures)) _ (c .before .number .ensures) (c .if2 .taken)
 
 -- src/reading.rt:120:9
 store-requires : tie.Need-store-requires Inv-loop μ-loop
@@ -80,19 +86,19 @@ size-requires c κs = search needs
 -- src/reading.rt:122:14
 add-at : tie.Need-add-at Inv-loop μ-loop
 add-at c =
-    let inside = record-inside (c .before .before .before .before .before .before .before .before .before .loop .inv) _ (c .before .before .before .before .before .before .before .before .loop-test .taken) (from-part (c .before .before .before .before .before .before .before .before .before .before .before .before .args .card .now) (c .before .before .before .before .before .before .before .before .before .loop .at) (c .before .before .before .before .before .before .front .ensures)) (sym (c .before .before .before .before .before .valid .ensures) ∙ not-false _ (c .before .before .before .before .if1 .left)) in
+    let inside = record-inside (c .before .before .before .before .before .before .before .before .before .loop .inv) _ (c .before .before .before .before .before .before .before .before .loop-test .taken) (from-part (c .before .before .before .before .before .before .before .before .before .before .before .before .before .before .before .args .card .now) (c .before .before .before .before .before .before .before .before .before .loop .at) (c .before .before .before .before .before .before .front .ensures)) (sym (c .before .before .before .before .before .valid .ensures) ∙ not-false _ (c .before .before .before .before .if1 .left)) in
     omega (arith, inside, c .size .ensures)
 
 -- src/reading.rt:111:5
 loop-less : tie.Need-loop-less Inv-loop μ-loop
 loop-less c =
-    let inside = record-inside (c .before .before .before .before .before .before .before .before .before .loop .inv) _ (c .before .before .before .before .before .before .before .before .loop-test .taken) (from-part (c .before .before .before .before .before .before .before .before .before .before .before .before .args .card .now) (c .before .before .before .before .before .before .before .before .before .loop .at) (c .before .before .before .before .before .before .front .ensures)) (sym (c .before .before .before .before .before .valid .ensures) ∙ not-false _ (c .before .before .before .before .if1 .left)) in
+    let inside = record-inside (c .before .before .before .before .before .before .before .before .before .loop .inv) _ (c .before .before .before .before .before .before .before .before .loop-test .taken) (from-part (c .before .before .before .before .before .before .before .before .before .before .before .before .before .before .before .args .card .now) (c .before .before .before .before .before .before .before .before .before .loop .at) (c .before .before .before .before .before .before .front .ensures)) (sym (c .before .before .before .before .before .valid .ensures) ∙ not-false _ (c .before .before .before .before .if1 .left)) in
     omega (arith, inside, c .size .ensures, c .before .before .before .before .before .before .before .before .loop-test .taken)
 
 -- src/reading.rt:111:5
 loop-again : tie.Need-loop-again Inv-loop μ-loop
 loop-again c =
-    loading-next (c .before .before .before .before .before .before .before .before .before .loop .inv) _ (c .before .before .before .before .before .before .before .before .loop-test .taken) (from-part (c .before .before .before .before .before .before .before .before .before .before .before .before .args .card .now) (c .before .before .before .before .before .before .before .before .before .loop .at) (c .before .before .before .before .before .before .front .ensures)) _ _ _
+    loading-next (c .before .before .before .before .before .before .before .before .before .loop .inv) _ (c .before .before .before .before .before .before .before .before .loop-test .taken) (from-part (c .before .before .before .before .before .before .before .before .before .before .before .before .before .before .before .args .card .now) (c .before .before .before .before .before .before .before .before .before .loop .at) (c .before .before .before .before .before .before .front .ensures)) _ _ _
     (sym (c .before .before .before .before .before .valid .ensures) ∙ not-false _ (c .before .before .before .before .if1 .left)) (c .before .before .before .number .ensures) (c .before .before .if2 .left) (c .size .ensures) (c .before .store .ensures)
 
 -- src/reading.rt:105:1
@@ -105,7 +111,8 @@ load-spec =
     (tie.spec
     Inv-loop
     μ-loop
-    blank-requires
+    load-low-requires
+    of-tables-requires
     loop-holds
     sub-front
     part-front-start
