@@ -13,15 +13,18 @@ use lib.ListN.{length, take, drop, replicate, length-drop, length-append}
 use lib.Seq.{take-all, drop-drop}
 use borrow.Author.Tests.{eq-eqb, ne-eqb, le-leb, lt-leb, leb-true, ltb-true}
 use Rattle.reach.specs.declared.Policy.{Policy}
+use Rattle.reach.specs.declared.Appointment.{Appointment}
+use Rattle.reach.specs.declared.AccessRule.{AccessRule}
 use Rattle.reach.specs.Tests.{_⇒_∥_}
-use Rattle.reach.specs.Successors.{put}
+use Rattle.reach.specs.Tables.{noAppointment, noRule}
+use Rattle.reach.specs.Successors.{put, appointed, ruled}
 use Rattle.text.specs.Text.{Bytes}
 use Rattle.snapshot.specs.declared.Entry.{Entry}
 use Rattle.snapshot.specs.declared.Loaded.{Loaded}
 use Rattle.snapshot.specs.declared.Entry.the-variants.{Object, Membership, Appointed, Granted, Empty}
-use Rattle.snapshot.specs.Card.{bytesOf}
+use Rattle.snapshot.specs.Card.{known, bytesOf}
 use Rattle.snapshot.specs.Loading.{places, numberOf, front, valid, sizeOf, store, blank, loaded, damage, load, PartRead}
-use Rattle.snapshot.specs.Loading.{low, sortsWith, membersWith, fitsLow, ofTables}
+use Rattle.snapshot.specs.Loading.{sortsWith, membersWith, appointmentsWith, rulesWith, low, fitsLow, tabled, lowTabled}
 use Rattle.snapshot.proofs.Records.{and-both, and-off, size-is, size-large, front-whole, number-low}
 
 -- ---- One step of `load`
@@ -39,7 +42,7 @@ load-done kept p zero n c h = rw (eq-eqb (length c) 0 h)
 load-done kept p (suc l) n c h = rw (eq-eqb (length c) 0 h)
 
 -- The bytes from a place on, as they are lent.
-pub from-part : (b : Bytes) (at : ℕ) {e : Entry} → e ≡ front (take (length b - at) (drop at b)) → e ≡ front (drop at b)
+from-part : (b : Bytes) (at : ℕ) {e : Entry} → e ≡ front (take (length b - at) (drop at b)) → e ≡ front (drop at b)
 from-part b at q = q ∙ ap front (take-all (length b - at) (drop at b) (simp length-drop (le-refl _)))
 
 pub number-small : (e : Entry) → valid e ≡ true → numberOf e < 4256
@@ -55,7 +58,10 @@ module _ {kept : Policy} {b : Bytes} {p : Policy} {n at : ℕ} (w : PartRead kep
   pub loading-end : length b ≤ at → loaded p ≡ load kept (length b) blank 0 b
   loading-end l = sym (load-done kept p (w .left) n (drop at b) (simp length-drop (omega arith))) ∙ w .whole
 
-  module _ (e : Entry) (inside : at < length b) (r : e ≡ front (drop at b)) where
+  module _ (e : Entry) (inside : at < length b) (part : e ≡ front (take (length b - at) (drop at b))) where
+    r : e ≡ front (drop at b)
+    r = from-part b at part
+
     step : (l : ℕ) → l ≡ w .left
         → (valid e && leb n (numberOf e) ⇒ load kept (l - 1) (store p e) (suc (numberOf e)) (drop (sizeOf e) (drop at b)) ∥ damage kept)
         ≡ load kept (length b) blank 0 b
@@ -106,25 +112,47 @@ module _ {kept : Policy} {b : Bytes} {p : Policy} {n at : ℕ} (w : PartRead kep
 
 -- ---- The records that a file begins with
 
--- A membership has its two places.
+-- Its place is on its table.
 pub membership-low : {e : Entry} {x g : ℕ} → e ≡ Membership x g → valid e ≡ true → (x < 64) × (g < 64)
 membership-low {e} {x} {g} q h =
     let w = and-both (ltb x 64) (ltb g 64) (rw q at h) in (ltb-true x 64 (w .0), ltb-true g 64 (w .1))
 
--- Stored in the two tables, it is stored in their policy.
+pub appointed-low : {e : Entry} {i k h a b : ℕ} → e ≡ Appointed i k h a b → valid e ≡ true → i < 32
+appointed-low {e} {i} {k} q v = ltb-true i 32 (and-both (ltb i 32) (known k) (rw q at v) .0)
+
+pub granted-low : {e : Entry} {i u t o : ℕ} → e ≡ Granted i u t o → valid e ≡ true → i < 64
+granted-low {e} {i} q v = ltb-true i 64 (rw q at v)
+
+-- A record that is stored in its table is stored in the policy of the four.
+pub store-tabled : (sorts members : List ℕ) (appointments : List Appointment) (rules : List AccessRule) (e : Entry) → valid e ≡ true
+    → tabled (sortsWith sorts e) (membersWith members e) (appointmentsWith appointments e) (rulesWith rules e)
+    ≡ store (tabled sorts members appointments rules) e
+unfolding put appointed ruled
+store-tabled sorts members appointments rules (Object x s) v = refl
+store-tabled sorts members appointments rules (Membership x g) v = rw v
+store-tabled sorts members appointments rules (Appointed i k h a b) v = refl
+store-tabled sorts members appointments rules (Granted i u t o) v = refl
+store-tabled sorts members appointments rules Empty v = refl
+
+-- An object or a membership changes the first two alone.
+low-only : (e : Entry) (appointments : List Appointment) (rules : List AccessRule) → low e ≡ true
+    → (appointmentsWith appointments e ≡ appointments) × (rulesWith rules e ≡ rules)
+low-only (Object x s) appointments rules l = (refl, refl)
+low-only (Membership x g) appointments rules l = (refl, refl)
+low-only (Appointed i k h a b) appointments rules l = absurd (false≢true l)
+low-only (Granted i u t o) appointments rules l = absurd (false≢true l)
+low-only Empty appointments rules l = absurd (false≢true l)
+
 store-low : (sorts members : List ℕ) (e : Entry) → low e ≡ true → valid e ≡ true
-    → ofTables (sortsWith sorts e) (membersWith members e) ≡ store (ofTables sorts members) e
-unfolding put
-store-low sorts members (Object x s) l v = refl
-store-low sorts members (Membership x g) l v = rw v
-store-low sorts members (Appointed i k h a b) l v = absurd (false≢true l)
-store-low sorts members (Granted i u t o) l v = absurd (false≢true l)
-store-low sorts members Empty l v = absurd (false≢true l)
+    → lowTabled (sortsWith sorts e) (membersWith members e) ≡ store (lowTabled sorts members) e
+store-low sorts members e l v =
+    let same = low-only e (replicate 32 noAppointment) (replicate 64 noRule) l in
+    rw (same .0, same .1) at (store-tabled sorts members (replicate 32 noAppointment) (replicate 64 noRule) e v)
 
 pub low-start : (b : Bytes) (sorts members : List ℕ) → sorts ≡ replicate 64 0 → members ≡ replicate 64 0
-    → (kept : Policy) → PartRead kept b (ofTables sorts members) 0 0
+    → (kept : Policy) → PartRead kept b (lowTabled sorts members) 0 0
 unfolding blank
-low-start b sorts members s m kept = loading-start kept b (ofTables sorts members) (rw (s, m))
+low-start b sorts members s m kept = loading-start kept b (lowTabled sorts members) (rw (s, m))
 
 module _ (e : Entry) (n : ℕ) (f : fitsLow e n ≡ true) where
   parts : (low e ≡ true) × (valid e ≡ true) × (n ≤ numberOf e)
@@ -135,14 +163,14 @@ module _ (e : Entry) (n : ℕ) (f : fitsLow e n ≡ true) where
   pub fits-valid : valid e ≡ true
   fits-valid = parts .1
 
-  module _ {b : Bytes} {sorts members : List ℕ} {at : ℕ} (w : (kept : Policy) → PartRead kept b (ofTables sorts members) n at)
+  module _ {b : Bytes} {sorts members : List ℕ} {at : ℕ} (w : (kept : Policy) → PartRead kept b (lowTabled sorts members) n at)
       (inside : at < length b) (r : e ≡ front (take (length b - at) (drop at b)))
     where
       pub low-inside : (at + sizeOf e ≤ length b) × (1 ≤ sizeOf e)
-      low-inside = record-inside (w blank) e inside (from-part b at r) fits-valid
+      low-inside = record-inside (w blank) e inside r fits-valid
 
       pub low-next : (k m : ℕ) (s t : List ℕ) → k ≡ numberOf e → m ≡ sizeOf e → s ≡ sortsWith sorts e → t ≡ membersWith members e
-          → (kept : Policy) → PartRead kept b (ofTables s t) (k + 1) (at + m)
+          → (kept : Policy) → PartRead kept b (lowTabled s t) (k + 1) (at + m)
       low-next k m s t q z x y kept =
-          loading-next (w kept) e inside (from-part b at r) k m (ofTables s t) fits-valid q (omega (arith, parts .2)) z
+          loading-next (w kept) e inside r k m (lowTabled s t) fits-valid q (omega (arith, parts .2)) z
           (rw (x, y) (store-low sorts members e (parts .0) fits-valid))

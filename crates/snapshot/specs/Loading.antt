@@ -9,6 +9,7 @@ use lib.ListN.{length, set, drop, replicate}
 use Rattle.frame.specs.Fields.{byte, lengthField, kindField}
 use Rattle.reach.specs.declared.Policy.{Policy}
 use Rattle.reach.specs.declared.Appointment.{Appointment}
+use Rattle.reach.specs.declared.AccessRule.{AccessRule}
 use Rattle.reach.specs.Tests.{_⇒_∥_}
 use Rattle.reach.specs.Tables.{View, noAppointment, noRule, standing}
 use Rattle.reach.specs.Successors.{withSorts, addTo, put, appointed, granted}
@@ -107,14 +108,7 @@ pub record PartRead (kept : Policy) (b : Bytes) (p : Policy) (n at : ℕ) : Type
   pub enough : length b ≤ at + left
   pub whole : load kept left p n (drop at b) ≡ load kept (length b) blank 0 b
 
--- The records that a file begins with, of objects and of memberships, change these two tables alone.
-abbrev pub low : Entry → Bool
-low (Object x s) = true
-low (Membership x g) = true
-low (Appointed i k h a b) = false
-low (Granted i u t o) = false
-low Empty = false
-
+-- The four tables, each with the record in its place if it is of its kind.
 abbrev pub sortsWith : List ℕ → Entry → List ℕ
 sortsWith l (Object x s) = set l x s
 sortsWith l (Membership x g) = l
@@ -129,11 +123,36 @@ membersWith l (Appointed i k h a b) = l
 membersWith l (Granted i u t o) = l
 membersWith l Empty = l
 
+abbrev pub appointmentsWith : List Appointment → Entry → List Appointment
+appointmentsWith l (Object x s) = l
+appointmentsWith l (Membership x g) = l
+appointmentsWith l (Appointed i k h a b) = set l i (record { kind = k; holder = h; a = a; b = b })
+appointmentsWith l (Granted i u t o) = l
+appointmentsWith l Empty = l
+
+abbrev pub rulesWith : List AccessRule → Entry → List AccessRule
+rulesWith l (Object x s) = l
+rulesWith l (Membership x g) = l
+rulesWith l (Appointed i k h a b) = l
+rulesWith l (Granted i u t o) = set l i (record { used = true; users = u; targets = t; operations = o })
+rulesWith l Empty = l
+
+-- Objects and memberships, which a file begins with.
+abbrev pub low : Entry → Bool
+low (Object x s) = true
+low (Membership x g) = true
+low (Appointed i k h a b) = false
+low (Granted i u t o) = false
+low Empty = false
+
 -- One of them that can be stored where n is the least number.
 abbrev pub fitsLow : Entry → ℕ → Bool
 fitsLow e n = low e && valid e && leb n (numberOf e)
 
--- The policy of the two tables, with no appointment and no rule.
-abbrev pub ofTables : List ℕ → List ℕ → Policy
-ofTables sorts members =
-    record { sorts = sorts; members = members; appointments = replicate 32 noAppointment; rules = replicate 64 noRule }
+-- The policy of its four tables, and that of the first two, with no appointment and no rule.
+abbrev pub tabled : List ℕ → List ℕ → List Appointment → List AccessRule → Policy
+tabled sorts members appointments rules =
+    record { sorts = sorts; members = members; appointments = appointments; rules = rules }
+
+abbrev pub lowTabled : List ℕ → List ℕ → Policy
+lowTabled sorts members = tabled sorts members (replicate 32 noAppointment) (replicate 64 noRule)

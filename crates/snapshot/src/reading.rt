@@ -3,15 +3,13 @@
 ghost use mathlib.Core.Path.{_≡_};
 ghost use mathlib.Core.Bool.{true};
 ghost use mathlib.Core.List.{List};
-ghost use Prim.Native.Nat.{_<_};
-ghost use lib.ListN.{length, set, replicate};
-ghost use Rattle.reach.specs.Successors.{withSorts};
+ghost use lib.ListN.{length, replicate};
 ghost use Rattle.text.specs.Text.{Bytes};
 ghost use Rattle.list.specs.Demand.{Demand3};
 ghost use Rattle.snapshot.specs.declared.Status.the-variants.{Done};
 ghost use Rattle.snapshot.specs.Answers.{Reads};
-ghost use Rattle.snapshot.specs.Loading.{headed, front, valid, store, blank, load};
-ghost use Rattle.snapshot.specs.Loading.{low, sortsWith, membersWith, fitsLow, ofTables, PartRead};
+ghost use Rattle.snapshot.specs.Loading.{headed, front, valid, blank, load, PartRead};
+ghost use Rattle.snapshot.specs.Loading.{sortsWith, membersWith, appointmentsWith, rulesWith, low, fitsLow, lowTabled};
 use crate::Entry;
 use crate::Loaded;
 use crate::Status;
@@ -47,37 +45,6 @@ fn front(b: &[u8]) -> Entry
         return Entry::Granted(byte(b, 4), byte(b, 5), byte(b, 6), byte(b, 7));
     }
     Entry::Empty
-}
-
-// The policy with another sort of the object x.
-fn with_sort(mut p: Policy, x: u8, s: u8) -> Policy
-    requires { ⌜ x < 64 ⌝ }
-    ensures { λ r. ⌜ r ≡ withSorts p (set (p .sorts) x s) ⌝ }
-{
-    p.sorts[x as usize] = s;
-    p
-}
-
-// The policy with the record in its place.
-fn store(p: Policy, e: Entry) -> Policy
-    requires { ⌜ valid e ≡ true ⌝ }
-    ensures { λ r. ⌜ r ≡ store p e ⌝ }
-{
-    match e {
-        Entry::Object(x, s) => with_sort(p, x, s),
-        Entry::Membership(x, g) => p.put(x, g),
-        Entry::Appointed(i, k, h, a, b) => p.appointed(
-            i,
-            Appointment {
-                kind: k,
-                holder: h,
-                a: a,
-                b: b,
-            },
-        ),
-        Entry::Granted(i, u, t, o) => p.granted(i, u, t, o),
-        Entry::Empty => p,
-    }
 }
 
 // Whether the record is an object or a membership.
@@ -130,7 +97,7 @@ struct Mark {
 fn load_low(card: &[u8], sorts: &mut [u8; 64], members: &mut [u64; 64]) -> Mark
     requires { ⌜ now sorts ≡ replicate 64 0 ⌝ }
     requires { ⌜ now members ≡ replicate 64 0 ⌝ }
-    ensures { λ r. ⌜ ((kept : Policy) → PartRead kept (now (card .entry)) (ofTables (now (sorts .exit)) (now (members .exit))) (r .n) (r .at)) ⌝ }
+    ensures { λ r. ⌜ ((kept : Policy) → PartRead kept (now (card .entry)) (lowTabled (now (sorts .exit)) (now (members .exit))) (r .n) (r .at)) ⌝ }
 {
     let mut n: usize = 0;
     let mut at: usize = 0;
@@ -146,36 +113,69 @@ fn load_low(card: &[u8], sorts: &mut [u8; 64], members: &mut [u64; 64]) -> Mark
     Mark { n, at }
 }
 
-// The policy of the two tables, with no appointment and no rule.
-fn of_tables(sorts: [u8; 64], members: [u64; 64]) -> Policy
-    ensures { λ r. ⌜ r ≡ ofTables sorts members ⌝ }
+// The appointments with the record in its place, if it is one of them.
+fn appointments_with(mut appointments: [Appointment; 32], e: Entry) -> [Appointment; 32]
+    requires { ⌜ valid e ≡ true ⌝ }
+    ensures { λ r. ⌜ r ≡ appointmentsWith appointments e ⌝ }
 {
-    Policy {
-        sorts,
-        members,
-        appointments: [Appointment {
-            kind: 0,
-            holder: 0,
-            a: 0,
-            b: 0,
-        }; 32],
-        rules: [AccessRule {
-            used: false,
-            users: 0,
-            targets: 0,
-            operations: 0,
-        }; 64],
+    match e {
+        Entry::Object(_, _) => appointments,
+        Entry::Membership(_, _) => appointments,
+        Entry::Appointed(i, k, h, a, b) => {
+            appointments[i as usize] = Appointment {
+                kind: k,
+                holder: h,
+                a: a,
+                b: b,
+            };
+            appointments
+        }
+        Entry::Granted(_, _, _, _) => appointments,
+        Entry::Empty => appointments,
     }
 }
 
-// The records of the card, stored in the empty policy: objects and memberships in tables apart, and what comes after them in the policy.
+// The rules with the record in its place, if it is one of them.
+fn rules_with(mut rules: [AccessRule; 64], e: Entry) -> [AccessRule; 64]
+    requires { ⌜ valid e ≡ true ⌝ }
+    ensures { λ r. ⌜ r ≡ rulesWith rules e ⌝ }
+{
+    match e {
+        Entry::Object(_, _) => rules,
+        Entry::Membership(_, _) => rules,
+        Entry::Appointed(_, _, _, _, _) => rules,
+        Entry::Granted(i, u, t, o) => {
+            rules[i as usize] = AccessRule {
+                used: true,
+                users: u,
+                targets: t,
+                operations: o,
+            };
+            rules
+        }
+        Entry::Empty => rules,
+    }
+}
+
+// The records of the card, stored in the empty policy. Its tables are kept apart: a policy is 960 bytes, and would be copied for each record.
 fn load(kept: Policy, card: &[u8]) -> Loaded
     ensures { λ r. ⌜ r ≡ load kept (length (now (card .entry))) blank 0 (now (card .entry)) ⌝ }
 {
     let mut sorts: [u8; 64] = [0; 64];
     let mut members: [u64; 64] = [0; 64];
     let mark = load_low(card, &mut sorts, &mut members);
-    let mut p = of_tables(sorts, members);
+    let mut appointments = [Appointment {
+        kind: 0,
+        holder: 0,
+        a: 0,
+        b: 0,
+    }; 32];
+    let mut rules = [AccessRule {
+        used: false,
+        users: 0,
+        targets: 0,
+        operations: 0,
+    }; 64];
     let mut n = mark.n;
     let mut at = mark.at;
     while at < card.len() {
@@ -193,13 +193,22 @@ fn load(kept: Policy, card: &[u8]) -> Loaded
                 policy: kept,
             };
         }
-        p = store(p, e);
+        store_low(&mut sorts, &mut members, e);
+        let more = appointments_with(appointments, e);
+        appointments = more;
+        let ruled = rules_with(rules, e);
+        rules = ruled;
         n = k + 1;
         at = at + e.size();
     }
     Loaded {
         status: Status::Done,
-        policy: p,
+        policy: Policy {
+            sorts,
+            members,
+            appointments,
+            rules,
+        },
     }
 }
 
