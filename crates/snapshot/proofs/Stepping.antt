@@ -10,7 +10,7 @@ use native.Mathlib.Numerals.{add-one}
 use native.Mathlib.Omega.{arith}
 use lib.Dec.{eqb, leb, ltb}
 use lib.ListN.{length, take, drop, replicate, length-drop, length-append}
-use lib.Seq.{take-all, drop-drop}
+use lib.Seq.{take-all, drop-drop, set-getD}
 use borrow.Author.Tests.{eq-eqb, ne-eqb, le-leb, lt-leb, leb-true, ltb-true}
 use Rattle.reach.specs.declared.Policy.{Policy}
 use Rattle.reach.specs.declared.Appointment.{Appointment}
@@ -128,17 +128,17 @@ pub store-tabled : (sorts members : List ℕ) (appointments : List Appointment) 
     → tabled (sortsWith sorts e) (membersWith members e) (appointmentsWith appointments e) (rulesWith rules e)
     ≡ store (tabled sorts members appointments rules) e
 unfolding put appointed ruled
-store-tabled sorts members appointments rules (Object x s) v = refl
-store-tabled sorts members appointments rules (Membership x g) v = rw v
-store-tabled sorts members appointments rules (Appointed i k h a b) v = refl
-store-tabled sorts members appointments rules (Granted i u t o) v = refl
-store-tabled sorts members appointments rules Empty v = refl
+store-tabled sorts members appointments rules (Object x s) v = rw (set-getD appointments 0 noAppointment, set-getD rules 0 noRule)
+store-tabled sorts members appointments rules (Membership x g) v = rw (v, set-getD appointments 0 noAppointment, set-getD rules 0 noRule)
+store-tabled sorts members appointments rules (Appointed i k h a b) v = rw (set-getD rules 0 noRule)
+store-tabled sorts members appointments rules (Granted i u t o) v = rw (set-getD appointments 0 noAppointment)
+store-tabled sorts members appointments rules Empty v = absurd (false≢true v)
 
 -- An object or a membership changes the first two alone.
 low-only : (e : Entry) (appointments : List Appointment) (rules : List AccessRule) → low e ≡ true
     → (appointmentsWith appointments e ≡ appointments) × (rulesWith rules e ≡ rules)
-low-only (Object x s) appointments rules l = (refl, refl)
-low-only (Membership x g) appointments rules l = (refl, refl)
+low-only (Object x s) appointments rules l = (set-getD appointments 0 noAppointment, set-getD rules 0 noRule)
+low-only (Membership x g) appointments rules l = (set-getD appointments 0 noAppointment, set-getD rules 0 noRule)
 low-only (Appointed i k h a b) appointments rules l = absurd (false≢true l)
 low-only (Granted i u t o) appointments rules l = absurd (false≢true l)
 low-only Empty appointments rules l = absurd (false≢true l)

@@ -5,7 +5,7 @@ use mathlib.Core.Bool.{Bool, true, false, _&&_}
 use mathlib.Core.List.{List}
 use Prim.Native.Nat.{ℕ, zero, suc, _+_, _-_, _*_, _/_, _%_, _≤_}
 use lib.Dec.{eqb, leb, ltb}
-use lib.ListN.{length, set, drop, replicate}
+use lib.ListN.{length, getD, set, drop, replicate}
 use Rattle.frame.specs.Fields.{byte, lengthField, kindField}
 use Rattle.reach.specs.declared.Policy.{Policy}
 use Rattle.reach.specs.declared.Appointment.{Appointment}
@@ -123,19 +123,40 @@ membersWith l (Appointed i k h a b) = l
 membersWith l (Granted i u t o) = l
 membersWith l Empty = l
 
+-- An appointment and a rule, by the place where it is stored and what stands there after; a record of another kind leaves what stood at 0.
+abbrev pub appointmentPlace : Entry → ℕ
+appointmentPlace (Object x s) = 0
+appointmentPlace (Membership x g) = 0
+appointmentPlace (Appointed i k h a b) = i
+appointmentPlace (Granted i u t o) = 0
+appointmentPlace Empty = 0
+
+abbrev pub appointmentAfter : Appointment → Entry → Appointment
+appointmentAfter w (Object x s) = w
+appointmentAfter w (Membership x g) = w
+appointmentAfter w (Appointed i k h a b) = record { kind = k; holder = h; a = a; b = b }
+appointmentAfter w (Granted i u t o) = w
+appointmentAfter w Empty = w
+
+abbrev pub rulePlace : Entry → ℕ
+rulePlace (Object x s) = 0
+rulePlace (Membership x g) = 0
+rulePlace (Appointed i k h a b) = 0
+rulePlace (Granted i u t o) = i
+rulePlace Empty = 0
+
+abbrev pub ruleAfter : AccessRule → Entry → AccessRule
+ruleAfter r (Object x s) = r
+ruleAfter r (Membership x g) = r
+ruleAfter r (Appointed i k h a b) = r
+ruleAfter r (Granted i u t o) = record { used = true; users = u; targets = t; operations = o }
+ruleAfter r Empty = r
+
 abbrev pub appointmentsWith : List Appointment → Entry → List Appointment
-appointmentsWith l (Object x s) = l
-appointmentsWith l (Membership x g) = l
-appointmentsWith l (Appointed i k h a b) = set l i (record { kind = k; holder = h; a = a; b = b })
-appointmentsWith l (Granted i u t o) = l
-appointmentsWith l Empty = l
+appointmentsWith l e = set l (appointmentPlace e) (appointmentAfter (getD l (appointmentPlace e) noAppointment) e)
 
 abbrev pub rulesWith : List AccessRule → Entry → List AccessRule
-rulesWith l (Object x s) = l
-rulesWith l (Membership x g) = l
-rulesWith l (Appointed i k h a b) = l
-rulesWith l (Granted i u t o) = set l i (record { used = true; users = u; targets = t; operations = o })
-rulesWith l Empty = l
+rulesWith l e = set l (rulePlace e) (ruleAfter (getD l (rulePlace e) noRule) e)
 
 -- Objects and memberships, which a file begins with.
 abbrev pub low : Entry → Bool

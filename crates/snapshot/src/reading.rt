@@ -3,13 +3,15 @@
 ghost use mathlib.Core.Path.{_≡_};
 ghost use mathlib.Core.Bool.{true};
 ghost use mathlib.Core.List.{List};
+ghost use Prim.Native.Nat.{_<_};
 ghost use lib.ListN.{length, replicate};
 ghost use Rattle.text.specs.Text.{Bytes};
 ghost use Rattle.list.specs.Demand.{Demand3};
 ghost use Rattle.snapshot.specs.declared.Status.the-variants.{Done};
 ghost use Rattle.snapshot.specs.Answers.{Reads};
 ghost use Rattle.snapshot.specs.Loading.{headed, front, valid, blank, load, PartRead};
-ghost use Rattle.snapshot.specs.Loading.{sortsWith, membersWith, appointmentsWith, rulesWith, low, fitsLow, lowTabled};
+ghost use Rattle.snapshot.specs.Loading.{sortsWith, membersWith, low, fitsLow, lowTabled};
+ghost use Rattle.snapshot.specs.Loading.{appointmentPlace, appointmentAfter, rulePlace, ruleAfter};
 use crate::Entry;
 use crate::Loaded;
 use crate::Status;
@@ -113,51 +115,74 @@ fn load_low(card: &[u8], sorts: &mut [u8; 64], members: &mut [u64; 64]) -> Mark
     Mark { n, at }
 }
 
-// The appointments with the record in its place, if it is one of them.
-fn appointments_with(mut appointments: [Appointment; 32], e: Entry) -> [Appointment; 32]
+// Where an appointment is stored; 0 for a record of another kind.
+fn appointment_place(e: Entry) -> usize
     requires { ⌜ valid e ≡ true ⌝ }
-    ensures { λ r. ⌜ r ≡ appointmentsWith appointments e ⌝ }
+    ensures { λ r. ⌜ r ≡ appointmentPlace e ⌝ }
+    ensures { λ r. ⌜ r < 32 ⌝ }
 {
     match e {
-        Entry::Object(_, _) => appointments,
-        Entry::Membership(_, _) => appointments,
-        Entry::Appointed(i, k, h, a, b) => {
-            appointments[i as usize] = Appointment {
-                kind: k,
-                holder: h,
-                a: a,
-                b: b,
-            };
-            appointments
-        }
-        Entry::Granted(_, _, _, _) => appointments,
-        Entry::Empty => appointments,
+        Entry::Object(_, _) => 0,
+        Entry::Membership(_, _) => 0,
+        Entry::Appointed(i, _, _, _, _) => i as usize,
+        Entry::Granted(_, _, _, _) => 0,
+        Entry::Empty => 0,
     }
 }
 
-// The rules with the record in its place, if it is one of them.
-fn rules_with(mut rules: [AccessRule; 64], e: Entry) -> [AccessRule; 64]
-    requires { ⌜ valid e ≡ true ⌝ }
-    ensures { λ r. ⌜ r ≡ rulesWith rules e ⌝ }
+// What stands there once the record is stored, where w stood; a record of another kind leaves it.
+fn appointment_after(w: Appointment, e: Entry) -> Appointment
+    ensures { λ r. ⌜ r ≡ appointmentAfter w e ⌝ }
 {
     match e {
-        Entry::Object(_, _) => rules,
-        Entry::Membership(_, _) => rules,
-        Entry::Appointed(_, _, _, _, _) => rules,
-        Entry::Granted(i, u, t, o) => {
-            rules[i as usize] = AccessRule {
-                used: true,
-                users: u,
-                targets: t,
-                operations: o,
-            };
-            rules
-        }
-        Entry::Empty => rules,
+        Entry::Object(_, _) => w,
+        Entry::Membership(_, _) => w,
+        Entry::Appointed(_, k, h, a, b) => Appointment {
+            kind: k,
+            holder: h,
+            a: a,
+            b: b,
+        },
+        Entry::Granted(_, _, _, _) => w,
+        Entry::Empty => w,
     }
 }
 
-// The records of the card, stored in the empty policy. Its tables are kept apart: a policy is 960 bytes, and would be copied for each record.
+// Where a rule is stored; 0 for a record of another kind.
+fn rule_place(e: Entry) -> usize
+    requires { ⌜ valid e ≡ true ⌝ }
+    ensures { λ r. ⌜ r ≡ rulePlace e ⌝ }
+    ensures { λ r. ⌜ r < 64 ⌝ }
+{
+    match e {
+        Entry::Object(_, _) => 0,
+        Entry::Membership(_, _) => 0,
+        Entry::Appointed(_, _, _, _, _) => 0,
+        Entry::Granted(i, _, _, _) => i as usize,
+        Entry::Empty => 0,
+    }
+}
+
+// What stands there once the record is stored, where the rule stood; a record of another kind leaves it.
+fn rule_after(rule: AccessRule, e: Entry) -> AccessRule
+    ensures { λ r. ⌜ r ≡ ruleAfter rule e ⌝ }
+{
+    match e {
+        Entry::Object(_, _) => rule,
+        Entry::Membership(_, _) => rule,
+        Entry::Appointed(_, _, _, _, _) => rule,
+        Entry::Granted(_, u, t, o) => AccessRule {
+            used: true,
+            users: u,
+            targets: t,
+            operations: o,
+        },
+        Entry::Empty => rule,
+    }
+}
+
+// The records of the card, stored in the empty policy. Its tables are kept apart, and every turn stores at one place of each: a policy is
+// 960 bytes, and a function that takes one and gives one copies it for each record.
 fn load(kept: Policy, card: &[u8]) -> Loaded
     ensures { λ r. ⌜ r ≡ load kept (length (now (card .entry))) blank 0 (now (card .entry)) ⌝ }
 {
@@ -194,10 +219,12 @@ fn load(kept: Policy, card: &[u8]) -> Loaded
             };
         }
         store_low(&mut sorts, &mut members, e);
-        let more = appointments_with(appointments, e);
-        appointments = more;
-        let ruled = rules_with(rules, e);
-        rules = ruled;
+        let i = appointment_place(e);
+        let w = appointment_after(appointments[i], e);
+        appointments[i] = w;
+        let j = rule_place(e);
+        let rule = rule_after(rules[j], e);
+        rules[j] = rule;
         n = k + 1;
         at = at + e.size();
     }

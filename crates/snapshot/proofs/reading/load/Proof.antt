@@ -24,48 +24,89 @@ loop-holds c = c .load-low .ensures (c .before .before .before .before .args .ke
 
 returns : tie.Need-returns Inv-loop μ-loop
 returns c =
-    let l = c .before .before .before .before in
-    loading-unfit (l .before .loop .inv) _ (l .loop-test .taken) (c .before .before .front .ensures) (sym (c .before .valid .ensures) ∙ not-true _ (c .if1 .taken))
+    let t = c .before .before .before .before in
+    loading-unfit (t .before .loop .inv) _ (t .loop-test .taken) (c .before .before .front .ensures)
+    (sym (c .before .valid .ensures) ∙ not-true _ (c .if1 .taken))
 
 returns-2 : tie.Need-returns-2 Inv-loop μ-loop
 returns-2 c =
-    let l = c .before .before .before .before .before .before in
-    loading-fallen (l .before .loop .inv) _ (l .loop-test .taken) (c .before .before .before .before .front .ensures) _ (c .before .number .ensures) (c .if2 .taken)
+    let i = c .before .before in
+    let t = i .before .before .before .before in
+    loading-fallen (t .before .loop .inv) _ (t .loop-test .taken) (i .before .before .front .ensures) _ (c .before .number .ensures)
+    (c .if2 .taken)
 
 store-low-requires : tie.Need-store-low-requires Inv-loop μ-loop
-store-low-requires c κs = sym (c .before .before .before .before .before .valid .ensures) ∙ not-false _ (c .before .before .before .before .if1 .left)
+store-low-requires c κs =
+    let i = c .before .before .before .before in
+    sym (i .before .valid .ensures) ∙ not-false _ (i .if1 .left)
 
-appointments-with-requires : tie.Need-appointments-with-requires Inv-loop μ-loop
-appointments-with-requires c κs = sym (c .before .before .before .before .before .before .valid .ensures) ∙ not-false _ (c .before .before .before .before .before .if1 .left)
+appointment-place-requires : tie.Need-appointment-place-requires Inv-loop μ-loop
+appointment-place-requires c κs =
+    let i = c .before .before .before .before .before in
+    sym (i .before .valid .ensures) ∙ not-false _ (i .if1 .left)
 
-rules-with-requires : tie.Need-rules-with-requires Inv-loop μ-loop
-rules-with-requires c κs = sym (c .before .before .before .before .before .before .before .valid .ensures) ∙ not-false _ (c .before .before .before .before .before .before .if1 .left)
+mul-appointment-after : tie.Need-mul-appointment-after Inv-loop μ-loop
+mul-appointment-after c = search (needs, c .appointment-place .ensures .1)
+
+array-copy-out-appointment-after : tie.Need-array-copy-out-appointment-after Inv-loop μ-loop
+array-copy-out-appointment-after c = c .appointment-place .ensures .1
+
+mul-appointments : tie.Need-mul-appointments Inv-loop μ-loop
+mul-appointments c = search (needs, c .before .before .appointment-place .ensures .1)
+
+array-set-from-appointments : tie.Need-array-set-from-appointments Inv-loop μ-loop
+array-set-from-appointments c = c .before .before .appointment-place .ensures .1
+
+rule-place-requires : tie.Need-rule-place-requires Inv-loop μ-loop
+rule-place-requires c κs =
+    let i = c .before .before .before .before .before .before .before .before in
+    sym (i .before .valid .ensures) ∙ not-false _ (i .if1 .left)
+
+mul-rule-after : tie.Need-mul-rule-after Inv-loop μ-loop
+mul-rule-after c = search (needs, c .rule-place .ensures .1)
+
+array-copy-out-rule-after : tie.Need-array-copy-out-rule-after Inv-loop μ-loop
+array-copy-out-rule-after c = c .rule-place .ensures .1
+
+mul-rules : tie.Need-mul-rules Inv-loop μ-loop
+mul-rules c = search (needs, c .before .before .rule-place .ensures .1)
+
+array-set-from-rules : tie.Need-array-set-from-rules Inv-loop μ-loop
+array-set-from-rules c = c .before .before .rule-place .ensures .1
 
 add-n : tie.Need-add-n Inv-loop μ-loop
 add-n c =
-    let low = number-small (c .before .before .before .before .before .before .before .before .before .front .result) (sym (c .before .before .before .before .before .before .before .before .valid .ensures) ∙ not-false _ (c .before .before .before .before .before .before .before .if1 .left)) in
-    omega (arith, low, c .before .before .before .before .before .before .number .ensures)
+    let i = c .before .before .before .before .before .before .before .before .before .before .before in
+    let low = number-small (i .before .before .front .result) (sym (i .before .valid .ensures) ∙ not-false _ (i .if1 .left)) in
+    omega (arith, low, c .before .before .before .before .before .before .before .before .before .before .number .ensures)
 
 add-at : tie.Need-add-at Inv-loop μ-loop
 add-at c =
-    let l = c .before .before .before .before .before .before .before .before .before .before .before .before in
-    let inside = record-inside (l .before .loop .inv) _ (l .loop-test .taken) (c .before .before .before .before .before .before .before .before .before .before .front .ensures) (sym (c .before .before .before .before .before .before .before .before .before .valid .ensures) ∙ not-false _ (c .before .before .before .before .before .before .before .before .if1 .left)) in
-    omega (arith, inside, c .size .ensures)
+    let i = c .before .before .before .before .before .before .before .before .before .before .before .before in
+    let t = i .before .before .before .before in
+    let inside = record-inside (t .before .loop .inv) _ (t .loop-test .taken) (i .before .before .front .ensures) (sym (i .before .valid .ensures) ∙ not-false _ (i .if1 .left)) in
+    let s = t .before .before .before .before .before .before in
+    omega (arith, inside, c .size .ensures, s .good .1)
 
 loop-less : tie.Need-loop-less Inv-loop μ-loop
 loop-less c =
-    let l = c .before .before .before .before .before .before .before .before .before .before .before .before in
-    let inside = record-inside (l .before .loop .inv) _ (l .loop-test .taken) (c .before .before .before .before .before .before .before .before .before .before .front .ensures) (sym (c .before .before .before .before .before .before .before .before .before .valid .ensures) ∙ not-false _ (c .before .before .before .before .before .before .before .before .if1 .left)) in
-    omega (arith, inside, c .size .ensures, l .loop-test .taken)
+    let i = c .before .before .before .before .before .before .before .before .before .before .before .before in
+    let t = i .before .before .before .before in
+    let inside = record-inside (t .before .loop .inv) _ (t .loop-test .taken) (i .before .before .front .ensures) (sym (i .before .valid .ensures) ∙ not-false _ (i .if1 .left)) in
+    omega (arith, inside, c .size .ensures, t .loop-test .taken)
 
 loop-again : tie.Need-loop-again Inv-loop μ-loop
 loop-again c =
-    let l = c .before .before .before .before .before .before .before .before .before .before .before .before in
-    let valid = sym (c .before .before .before .before .before .before .before .before .before .valid .ensures) ∙ not-false _ (c .before .before .before .before .before .before .before .before .if1 .left) in
-    let low = c .before .before .before .store-low .ensures in
-    let o = l .before .loop in
-    loading-next (l .before .loop .inv) _ (l .loop-test .taken) (c .before .before .before .before .before .before .before .before .before .before .front .ensures) _ _ _ valid (c .before .before .before .before .before .before .before .number .ensures) (c .before .before .before .before .before .before .if2 .left) (c .size .ensures)
-    (rw (low .0, low .1, c .before .before .appointments-with .ensures, c .before .rules-with .ensures) (store-tabled (o .sorts) (o .members) (o .appointments) (o .rules) (c .before .before .before .before .before .before .before .before .before .before .front .result) valid))
+    let i = c .before .before .before .before .before .before .before .before .before .before .before .before in
+    let t = i .before .before .before .before in
+    let o = t .before .loop in
+    let a = c .before .before .before .before .before .before in
+    let low = a .before .store-low .ensures in
+    let valid = sym (i .before .valid .ensures) ∙ not-false _ (i .if1 .left) in
+    loading-next (t .before .loop .inv) _ (t .loop-test .taken) (i .before .before .front .ensures) _ _ _ valid
+    (c .before .before .before .before .before .before .before .before .before .before .before .number .ensures) (c .before .before .before .before .before .before .before .before .before .before .if2 .left) (c .size .ensures)
+    (rw (low .0, low .1, c .before .before .before .before .appointment-after .ensures, a .appointment-place .ensures .0, c .before .rule-after .ensures, c .before .before .before .rule-place .ensures .0)
+    (store-tabled (o .sorts) (o .members) (o .appointments) (o .rules) (i .before .before .front .result) valid))
 
 returns-3 : tie.Need-returns-3 Inv-loop μ-loop
 returns-3 c = loading-end (c .before .loop .inv) (c .loop-test .left)
@@ -87,8 +128,18 @@ load-spec =
     (λ c κs. search needs)
     returns-2
     store-low-requires
-    appointments-with-requires
-    rules-with-requires
+    appointment-place-requires
+    mul-appointment-after
+    array-copy-out-appointment-after
+    (λ c κs. search needs)
+    mul-appointments
+    array-set-from-appointments
+    rule-place-requires
+    mul-rule-after
+    array-copy-out-rule-after
+    (λ c κs. search needs)
+    mul-rules
+    array-set-from-rules
     add-n
     (λ c κs. search needs)
     add-at
