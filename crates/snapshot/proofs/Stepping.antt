@@ -1,23 +1,31 @@
 -- The loop of the reader: what is left to read, from the policy so far and the next number on, comes to what the whole card comes to. Each record
 -- that is stored takes one step of `load`.
 use mathlib.Core.Path.{_≡_, refl, sym, ap, _∙_}
-use mathlib.Core.Bool.{true, false, _&&_}
+use mathlib.Core.Bool.{Bool, true, false, _&&_, false≢true}
 use mathlib.Core.Logic.{_≢_}
+use mathlib.Core.List.{List, _++_}
 use Prim.Native.Nat.{ℕ, zero, suc, _+_, _-_, _≤_, _<_}
 use native.Mathlib.Nat.{le-refl}
 use native.Mathlib.Numerals.{add-one}
 use native.Mathlib.Omega.{arith}
-use lib.Dec.{leb}
-use lib.ListN.{length, take, drop, length-drop, length-append}
-use lib.Seq.{take-all, drop-drop}
-use borrow.Author.Tests.{eq-eqb, ne-eqb, le-leb, lt-leb}
+use lib.Dec.{eqb, leb, ltb}
+use lib.ListN.{length, take, drop, replicate, length-drop, length-append}
+use lib.Seq.{take-all, drop-drop, set-getD}
+use borrow.Author.Tests.{eq-eqb, ne-eqb, le-leb, lt-leb, leb-true, ltb-true}
 use Rattle.reach.specs.declared.Policy.{Policy}
+use Rattle.reach.specs.declared.Appointment.{Appointment}
+use Rattle.reach.specs.declared.AccessRule.{AccessRule}
 use Rattle.reach.specs.Tests.{_⇒_∥_}
+use Rattle.reach.specs.Tables.{noAppointment, noRule}
+use Rattle.reach.specs.Successors.{put, appointed, ruled}
 use Rattle.text.specs.Text.{Bytes}
 use Rattle.snapshot.specs.declared.Entry.{Entry}
-use Rattle.snapshot.specs.Card.{bytesOf}
-use Rattle.snapshot.specs.Loading.{places, numberOf, front, valid, sizeOf, store, blank, loaded, damage, load}
-use Rattle.snapshot.proofs.Records.{and-off, size-is, size-large, front-whole, number-low}
+use Rattle.snapshot.specs.declared.Loaded.{Loaded}
+use Rattle.snapshot.specs.declared.Entry.the-variants.{Object, Membership, Appointed, Granted, Empty}
+use Rattle.snapshot.specs.Card.{known, bytesOf}
+use Rattle.snapshot.specs.Loading.{places, numberOf, front, valid, sizeOf, store, blank, loaded, damage, load, PartRead}
+use Rattle.snapshot.specs.Loading.{sortsWith, membersWith, appointmentsWith, rulesWith, low, fitsLow, tabled, lowTabled}
+use Rattle.snapshot.proofs.Records.{and-both, and-off, size-is, size-large, front-whole, number-low}
 
 -- ---- One step of `load`
 
@@ -34,7 +42,7 @@ load-done kept p zero n c h = rw (eq-eqb (length c) 0 h)
 load-done kept p (suc l) n c h = rw (eq-eqb (length c) 0 h)
 
 -- The bytes from a place on, as they are lent.
-pub from-part : (b : Bytes) (at : ℕ) {e : Entry} → e ≡ front (take (length b - at) (drop at b)) → e ≡ front (drop at b)
+from-part : (b : Bytes) (at : ℕ) {e : Entry} → e ≡ front (take (length b - at) (drop at b)) → e ≡ front (drop at b)
 from-part b at q = q ∙ ap front (take-all (length b - at) (drop at b) (simp length-drop (le-refl _)))
 
 pub number-small : (e : Entry) → valid e ≡ true → numberOf e < 4256
@@ -43,20 +51,17 @@ number-small e v = number-low e v
 
 -- ---- The loop
 
-pub record Loading (kept : Policy) (b : Bytes) (p : Policy) (n at : ℕ) : Type 0 where
-  pub within : at ≤ length b
-  pub left : ℕ
-  pub enough : length b ≤ at + left
-  pub whole : load kept left p n (drop at b) ≡ load kept (length b) blank 0 b
-
-pub loading-start : (kept : Policy) (b : Bytes) (p : Policy) → p ≡ blank → Loading kept b p 0 0
+pub loading-start : (kept : Policy) (b : Bytes) (p : Policy) → p ≡ blank → PartRead kept b p 0 0
 loading-start kept b p e = record { within = omega arith; left = length b; enough = omega arith; whole = rw e }
 
-module _ {kept : Policy} {b : Bytes} {p : Policy} {n at : ℕ} (w : Loading kept b p n at) where
+module _ {kept : Policy} {b : Bytes} {p : Policy} {n at : ℕ} (w : PartRead kept b p n at) where
   pub loading-end : length b ≤ at → loaded p ≡ load kept (length b) blank 0 b
   loading-end l = sym (load-done kept p (w .left) n (drop at b) (simp length-drop (omega arith))) ∙ w .whole
 
-  module _ (e : Entry) (inside : at < length b) (r : e ≡ front (drop at b)) where
+  module _ (e : Entry) (inside : at < length b) (part : e ≡ front (take (length b - at) (drop at b))) where
+    r : e ≡ front (drop at b)
+    r = from-part b at part
+
     step : (l : ℕ) → l ≡ w .left
         → (valid e && leb n (numberOf e) ⇒ load kept (l - 1) (store p e) (suc (numberOf e)) (drop (sizeOf e) (drop at b)) ∥ damage kept)
         ≡ load kept (length b) blank 0 b
@@ -94,7 +99,7 @@ module _ {kept : Policy} {b : Bytes} {p : Policy} {n at : ℕ} (w : Loading kept
         )
 
     pub loading-next : (k m : ℕ) (t : Policy) → valid e ≡ true → k ≡ numberOf e → n ≤ k → m ≡ sizeOf e → t ≡ store p e
-        → Loading kept b t (k + 1) (at + m)
+        → PartRead kept b t (k + 1) (at + m)
     loading-next k m t v q l z x =
         record {
           within = omega (arith, record-inside v);
@@ -104,3 +109,68 @@ module _ {kept : Policy} {b : Bytes} {p : Policy} {n at : ℕ} (w : Loading kept
               rw (x, add-one, q, z, ← drop-drop (sizeOf e) at b)
               (rw (v, le-leb n (numberOf e) (omega arith)) at (step (w .left) refl));
         }
+
+-- ---- The records that a file begins with
+
+-- Its place is on its table.
+pub membership-low : {e : Entry} {x g : ℕ} → e ≡ Membership x g → valid e ≡ true → (x < 64) × (g < 64)
+membership-low {e} {x} {g} q h =
+    let w = and-both (ltb x 64) (ltb g 64) (rw q at h) in (ltb-true x 64 (w .0), ltb-true g 64 (w .1))
+
+pub appointed-low : {e : Entry} {i k h a b : ℕ} → e ≡ Appointed i k h a b → valid e ≡ true → i < 32
+appointed-low {e} {i} {k} q v = ltb-true i 32 (and-both (ltb i 32) (known k) (rw q at v) .0)
+
+pub granted-low : {e : Entry} {i u t o : ℕ} → e ≡ Granted i u t o → valid e ≡ true → i < 64
+granted-low {e} {i} q v = ltb-true i 64 (rw q at v)
+
+-- A record that is stored in its table is stored in the policy of the four.
+pub store-tabled : (sorts members : List ℕ) (appointments : List Appointment) (rules : List AccessRule) (e : Entry) → valid e ≡ true
+    → tabled (sortsWith sorts e) (membersWith members e) (appointmentsWith appointments e) (rulesWith rules e)
+    ≡ store (tabled sorts members appointments rules) e
+unfolding put appointed ruled
+store-tabled sorts members appointments rules (Object x s) v = rw (set-getD appointments 0 noAppointment, set-getD rules 0 noRule)
+store-tabled sorts members appointments rules (Membership x g) v = rw (v, set-getD appointments 0 noAppointment, set-getD rules 0 noRule)
+store-tabled sorts members appointments rules (Appointed i k h a b) v = rw (set-getD rules 0 noRule)
+store-tabled sorts members appointments rules (Granted i u t o) v = rw (set-getD appointments 0 noAppointment)
+store-tabled sorts members appointments rules Empty v = absurd (false≢true v)
+
+-- An object or a membership changes the first two alone.
+low-only : (e : Entry) (appointments : List Appointment) (rules : List AccessRule) → low e ≡ true
+    → (appointmentsWith appointments e ≡ appointments) × (rulesWith rules e ≡ rules)
+low-only (Object x s) appointments rules l = (set-getD appointments 0 noAppointment, set-getD rules 0 noRule)
+low-only (Membership x g) appointments rules l = (set-getD appointments 0 noAppointment, set-getD rules 0 noRule)
+low-only (Appointed i k h a b) appointments rules l = absurd (false≢true l)
+low-only (Granted i u t o) appointments rules l = absurd (false≢true l)
+low-only Empty appointments rules l = absurd (false≢true l)
+
+store-low : (sorts members : List ℕ) (e : Entry) → low e ≡ true → valid e ≡ true
+    → lowTabled (sortsWith sorts e) (membersWith members e) ≡ store (lowTabled sorts members) e
+store-low sorts members e l v =
+    let same = low-only e (replicate 32 noAppointment) (replicate 64 noRule) l in
+    rw (same .0, same .1) at (store-tabled sorts members (replicate 32 noAppointment) (replicate 64 noRule) e v)
+
+pub low-start : (b : Bytes) (sorts members : List ℕ) → sorts ≡ replicate 64 0 → members ≡ replicate 64 0
+    → (kept : Policy) → PartRead kept b (lowTabled sorts members) 0 0
+unfolding blank
+low-start b sorts members s m kept = loading-start kept b (lowTabled sorts members) (rw (s, m))
+
+module _ (e : Entry) (n : ℕ) (f : fitsLow e n ≡ true) where
+  parts : (low e ≡ true) × (valid e ≡ true) × (n ≤ numberOf e)
+  parts =
+      let a = and-both (low e && valid e) (leb n (numberOf e)) f in
+      let c = and-both (low e) (valid e) (a .0) in (c .0, c .1, leb-true n (numberOf e) (a .1))
+
+  pub fits-valid : valid e ≡ true
+  fits-valid = parts .1
+
+  module _ {b : Bytes} {sorts members : List ℕ} {at : ℕ} (w : (kept : Policy) → PartRead kept b (lowTabled sorts members) n at)
+      (inside : at < length b) (r : e ≡ front (take (length b - at) (drop at b)))
+    where
+      pub low-inside : (at + sizeOf e ≤ length b) × (1 ≤ sizeOf e)
+      low-inside = record-inside (w blank) e inside r fits-valid
+
+      pub low-next : (k m : ℕ) (s t : List ℕ) → k ≡ numberOf e → m ≡ sizeOf e → s ≡ sortsWith sorts e → t ≡ membersWith members e
+          → (kept : Policy) → PartRead kept b (lowTabled s t) (k + 1) (at + m)
+      low-next k m s t q z x y kept =
+          loading-next (w kept) e inside r k m (lowTabled s t) fits-valid q (omega (arith, parts .2)) z
+          (rw (x, y) (store-low sorts members e (parts .0) fits-valid))

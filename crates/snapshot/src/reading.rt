@@ -4,13 +4,14 @@ ghost use mathlib.Core.Path.{_≡_};
 ghost use mathlib.Core.Bool.{true};
 ghost use mathlib.Core.List.{List};
 ghost use Prim.Native.Nat.{_<_};
-ghost use lib.ListN.{length, set};
-ghost use Rattle.reach.specs.Successors.{withSorts};
+ghost use lib.ListN.{length, replicate};
 ghost use Rattle.text.specs.Text.{Bytes};
 ghost use Rattle.list.specs.Demand.{Demand3};
 ghost use Rattle.snapshot.specs.declared.Status.the-variants.{Done};
 ghost use Rattle.snapshot.specs.Answers.{Reads};
-ghost use Rattle.snapshot.specs.Loading.{headed, front, valid, store, blank, load};
+ghost use Rattle.snapshot.specs.Loading.{headed, front, valid, blank, load, PartRead};
+ghost use Rattle.snapshot.specs.Loading.{sortsWith, membersWith, low, fitsLow, lowTabled};
+ghost use Rattle.snapshot.specs.Loading.{appointmentPlace, appointmentAfter, rulePlace, ruleAfter};
 use crate::Entry;
 use crate::Loaded;
 use crate::Status;
@@ -48,66 +49,160 @@ fn front(b: &[u8]) -> Entry
     Entry::Empty
 }
 
-// The policy with another sort of the object x.
-fn with_sort(mut p: Policy, x: u8, s: u8) -> Policy
-    requires { ⌜ x < 64 ⌝ }
-    ensures { λ r. ⌜ r ≡ withSorts p (set (p .sorts) x s) ⌝ }
-{
-    p.sorts[x as usize] = s;
-    p
-}
-
-// The policy with the record in its place.
-fn store(p: Policy, e: Entry) -> Policy
-    requires { ⌜ valid e ≡ true ⌝ }
-    ensures { λ r. ⌜ r ≡ store p e ⌝ }
+// Whether the record is an object or a membership.
+fn is_low(e: Entry) -> bool
+    ensures { λ r. ⌜ r ≡ low e ⌝ }
 {
     match e {
-        Entry::Object(x, s) => with_sort(p, x, s),
-        Entry::Membership(x, g) => p.put(x, g),
-        Entry::Appointed(i, k, h, a, b) => p.appointed(
-            i,
-            Appointment {
-                kind: k,
-                holder: h,
-                a: a,
-                b: b,
-            },
-        ),
-        Entry::Granted(i, u, t, o) => p.granted(i, u, t, o),
-        Entry::Empty => p,
+        Entry::Object(_, _) => true,
+        Entry::Membership(_, _) => true,
+        Entry::Appointed(_, _, _, _, _) => false,
+        Entry::Granted(_, _, _, _) => false,
+        Entry::Empty => false,
     }
 }
 
-// The policy with nothing in it.
-fn blank() -> Policy
-    ensures { λ r. ⌜ r ≡ blank ⌝ }
+// Whether it is one that can be stored where n is the least number.
+fn fits_low(e: Entry, n: usize) -> bool
+    ensures { λ r. ⌜ r ≡ fitsLow e n ⌝ }
 {
-    Policy {
-        sorts: [0; 64],
-        members: [0; 64],
-        appointments: [Appointment {
-            kind: 0,
-            holder: 0,
-            a: 0,
-            b: 0,
-        }; 32],
-        rules: [AccessRule {
-            used: false,
-            users: 0,
-            targets: 0,
-            operations: 0,
-        }; 64],
+    is_low(e) & e.valid() & (n <= e.number())
+}
+
+// Stores an object or a membership in its table; a record of another kind changes neither.
+fn store_low(sorts: &mut [u8; 64], members: &mut [u64; 64], e: Entry)
+    requires { ⌜ valid e ≡ true ⌝ }
+    ensures { λ r. ⌜ now (sorts .exit) ≡ sortsWith (now (sorts .entry)) e ⌝ }
+    ensures { λ r. ⌜ now (members .exit) ≡ membersWith (now (members .entry)) e ⌝ }
+{
+    match e {
+        Entry::Object(x, s) => {
+            sorts[x as usize] = s;
+        }
+        Entry::Membership(x, g) => {
+            let i = g as usize;
+            members[i] = members[i] | (1u64 << x);
+        }
+        Entry::Appointed(_, _, _, _, _) => {}
+        Entry::Granted(_, _, _, _) => {}
+        Entry::Empty => {}
     }
 }
 
-// The records of the card, stored in the empty policy.
+// Where the reader goes on: the least number of the next record, and its place in the card.
+struct Mark {
+    n: usize,
+    at: usize,
+}
+
+// Stores the objects and memberships that the card begins with, up to the first record that is of another kind or can't be stored.
+fn load_low(card: &[u8], sorts: &mut [u8; 64], members: &mut [u64; 64]) -> Mark
+    requires { ⌜ now sorts ≡ replicate 64 0 ⌝ }
+    requires { ⌜ now members ≡ replicate 64 0 ⌝ }
+    ensures { λ r. ⌜ ((kept : Policy) → PartRead kept (now (card .entry)) (lowTabled (now (sorts .exit)) (now (members .exit))) (r .n) (r .at)) ⌝ }
+{
+    let mut n: usize = 0;
+    let mut at: usize = 0;
+    while at < card.len() {
+        let e = front(&card[at..]);
+        if !fits_low(e, n) {
+            return Mark { n, at };
+        }
+        store_low(sorts, members, e);
+        n = e.number() + 1;
+        at = at + e.size();
+    }
+    Mark { n, at }
+}
+
+// Where an appointment is stored; 0 for a record of another kind.
+fn appointment_place(e: Entry) -> usize
+    requires { ⌜ valid e ≡ true ⌝ }
+    ensures { λ r. ⌜ r ≡ appointmentPlace e ⌝ }
+    ensures { λ r. ⌜ r < 32 ⌝ }
+{
+    match e {
+        Entry::Object(_, _) => 0,
+        Entry::Membership(_, _) => 0,
+        Entry::Appointed(i, _, _, _, _) => i as usize,
+        Entry::Granted(_, _, _, _) => 0,
+        Entry::Empty => 0,
+    }
+}
+
+// What stands there once the record is stored, where w stood; a record of another kind leaves it.
+fn appointment_after(w: Appointment, e: Entry) -> Appointment
+    ensures { λ r. ⌜ r ≡ appointmentAfter w e ⌝ }
+{
+    match e {
+        Entry::Object(_, _) => w,
+        Entry::Membership(_, _) => w,
+        Entry::Appointed(_, k, h, a, b) => Appointment {
+            kind: k,
+            holder: h,
+            a: a,
+            b: b,
+        },
+        Entry::Granted(_, _, _, _) => w,
+        Entry::Empty => w,
+    }
+}
+
+// Where a rule is stored; 0 for a record of another kind.
+fn rule_place(e: Entry) -> usize
+    requires { ⌜ valid e ≡ true ⌝ }
+    ensures { λ r. ⌜ r ≡ rulePlace e ⌝ }
+    ensures { λ r. ⌜ r < 64 ⌝ }
+{
+    match e {
+        Entry::Object(_, _) => 0,
+        Entry::Membership(_, _) => 0,
+        Entry::Appointed(_, _, _, _, _) => 0,
+        Entry::Granted(i, _, _, _) => i as usize,
+        Entry::Empty => 0,
+    }
+}
+
+// What stands there once the record is stored, where the rule stood; a record of another kind leaves it.
+fn rule_after(rule: AccessRule, e: Entry) -> AccessRule
+    ensures { λ r. ⌜ r ≡ ruleAfter rule e ⌝ }
+{
+    match e {
+        Entry::Object(_, _) => rule,
+        Entry::Membership(_, _) => rule,
+        Entry::Appointed(_, _, _, _, _) => rule,
+        Entry::Granted(_, u, t, o) => AccessRule {
+            used: true,
+            users: u,
+            targets: t,
+            operations: o,
+        },
+        Entry::Empty => rule,
+    }
+}
+
+// The records of the card, stored in the empty policy. Its tables are kept apart, and every turn stores at one place of each: a policy is
+// 960 bytes, and a function that takes one and gives one copies it for each record.
 fn load(kept: Policy, card: &[u8]) -> Loaded
     ensures { λ r. ⌜ r ≡ load kept (length (now (card .entry))) blank 0 (now (card .entry)) ⌝ }
 {
-    let mut p = blank();
-    let mut n: usize = 0;
-    let mut at: usize = 0;
+    let mut sorts: [u8; 64] = [0; 64];
+    let mut members: [u64; 64] = [0; 64];
+    let mark = load_low(card, &mut sorts, &mut members);
+    let mut appointments = [Appointment {
+        kind: 0,
+        holder: 0,
+        a: 0,
+        b: 0,
+    }; 32];
+    let mut rules = [AccessRule {
+        used: false,
+        users: 0,
+        targets: 0,
+        operations: 0,
+    }; 64];
+    let mut n = mark.n;
+    let mut at = mark.at;
     while at < card.len() {
         let e = front(&card[at..]);
         if !e.valid() {
@@ -123,13 +218,24 @@ fn load(kept: Policy, card: &[u8]) -> Loaded
                 policy: kept,
             };
         }
-        p = store(p, e);
+        store_low(&mut sorts, &mut members, e);
+        let i = appointment_place(e);
+        let w = appointment_after(appointments[i], e);
+        appointments[i] = w;
+        let j = rule_place(e);
+        let rule = rule_after(rules[j], e);
+        rules[j] = rule;
         n = k + 1;
         at = at + e.size();
     }
     Loaded {
         status: Status::Done,
-        policy: p,
+        policy: Policy {
+            sorts,
+            members,
+            appointments,
+            rules,
+        },
     }
 }
 

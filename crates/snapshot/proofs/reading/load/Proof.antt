@@ -1,101 +1,113 @@
+-- `load` comes to what the whole card comes to: at each turn the rest of it, read into the policy of the four tables, comes to that.
+-- It holds where the first loop stops, and each record that is stored takes one step.
 use mathlib.Core.Path.{sym, _∙_}
 use Prim.Native.Nat.{_-_}
 use native.Mathlib.Omega.{arith}
 use lib.ListN.{length}
 use borrow.Author.Tests.{not-true, not-false}
-use Rattle.snapshot.proofs.Stepping.{from-part, number-small, Loading, loading-start, loading-end, loading-unfit, loading-fallen, record-inside, loading-next}
+use Rattle.snapshot.specs.Loading.{tabled, PartRead}
+use Rattle.snapshot.proofs.Stepping.{number-small, store-tabled, loading-end, loading-unfit, loading-fallen, record-inside, loading-next}
 use borrow.Author.Needs.{needs}
 use Rattle.snapshot.proofs.reading.load.Statement.{statement}
 use Rattle.snapshot.proofs.reading.load.Tie as tie
-use Rattle.snapshot.proofs.reading.load.Reads as reads
-use Rattle.snapshot.proofs.reading.load.Lts as lts
-use Rattle.snapshot.proofs.Entry.number.Reads as number-reads
-use Rattle.snapshot.proofs.Entry.size.Reads as size-reads
-use Rattle.snapshot.proofs.Entry.valid.Reads as valid-reads
-use Rattle.snapshot.proofs.reading.blank.Reads as blank-reads
-use Rattle.snapshot.proofs.reading.front.Reads as front-reads
-use Rattle.snapshot.proofs.reading.store.Reads as store-reads
 
 abbrev Inv-loop : tie.InvT-loop
-Inv-loop kept card p₀ n₀ at₀ p n at = Loading kept card p n at
+Inv-loop kept card sorts₀ members₀ appointments₀ rules₀ n₀ at₀ sorts members appointments rules n at =
+    PartRead kept card (tabled sorts members appointments rules) n at
 
 abbrev μ-loop : tie.MeasureT-loop
-μ-loop kept card p₀ n₀ at₀ p n at = length card - at
+μ-loop kept card sorts₀ members₀ appointments₀ rules₀ n₀ at₀ sorts members appointments rules n at =
+    length card - at
 
--- src/reading.rt:108:9
-blank-requires : tie.Need-blank-requires Inv-loop μ-loop
-blank-requires c κs = search needs
-
--- src/reading.rt:111:5
 loop-holds : tie.Need-loop-holds Inv-loop μ-loop
-loop-holds c = loading-start _ _ _ (c .blank .ensures)
+loop-holds c = c .load-low .ensures (c .before .before .before .before .args .kept)
 
--- src/reading.rt:112:23
-sub-front : tie.Need-sub-front Inv-loop μ-loop
-sub-front c = search needs
-
--- src/reading.rt:112:23
-part-front-start : tie.Need-part-front-start Inv-loop μ-loop
-part-front-start c = search needs
-
--- src/reading.rt:112:23
-part-front-end : tie.Need-part-front-end Inv-loop μ-loop
-part-front-end c = search needs
-
--- src/reading.rt:112:13
-front-requires : tie.Need-front-requires Inv-loop μ-loop
-front-requires c κs = search needs
-
--- src/reading.rt:113:13
-valid-requires : tie.Need-valid-requires Inv-loop μ-loop
-valid-requires c κs = search needs
-
--- src/reading.rt:114:13
 returns : tie.Need-returns Inv-loop μ-loop
 returns c =
-    loading-unfit (c .before .before .before .before .before .loop .inv) _ (c .before .before .before .before .loop-test .taken) (from-part (c .before .before .before .before .before .before .before .before .args .card .now) (c .before .before .before .before .before .loop .at) (c .before .before .front .ensures)) (sym (c .before .valid .ensures) ∙ not-true _ (c .if1 .taken))
+    let t = c .before .before .before .before in
+    loading-unfit (t .before .loop .inv) _ (t .loop-test .taken) (c .before .before .front .ensures)
+    (sym (c .before .valid .ensures) ∙ not-true _ (c .if1 .taken))
 
--- src/reading.rt:116:13
-number-requires : tie.Need-number-requires Inv-loop μ-loop
-number-requires c κs = search needs
-
--- src/reading.rt:118:13
 returns-2 : tie.Need-returns-2 Inv-loop μ-loop
 returns-2 c =
-    loading-fallen (c .before .before .before .before .before .before .before .loop .inv) _ (c .before .before .before .before .before .before .loop-test .taken) (from-part (c .before .before .before .before .before .before .before .before .before .before .args .card .now) (c .before .before .before .before .before .before .before .loop .at) (c .before .before .before .before .front .ensures)) _ (c .before .number .ensures) (c .if2 .taken)
+    let i = c .before .before in
+    let t = i .before .before .before .before in
+    loading-fallen (t .before .loop .inv) _ (t .loop-test .taken) (i .before .before .front .ensures) _ (c .before .number .ensures)
+    (c .if2 .taken)
 
--- src/reading.rt:120:9
-store-requires : tie.Need-store-requires Inv-loop μ-loop
-store-requires c κs = (sym (c .before .before .before .valid .ensures) ∙ not-false _ (c .before .before .if1 .left))
+store-low-requires : tie.Need-store-low-requires Inv-loop μ-loop
+store-low-requires c κs =
+    let i = c .before .before .before .before in
+    sym (i .before .valid .ensures) ∙ not-false _ (i .if1 .left)
 
--- src/reading.rt:121:13
+appointment-place-requires : tie.Need-appointment-place-requires Inv-loop μ-loop
+appointment-place-requires c κs =
+    let i = c .before .before .before .before .before in
+    sym (i .before .valid .ensures) ∙ not-false _ (i .if1 .left)
+
+mul-appointment-after : tie.Need-mul-appointment-after Inv-loop μ-loop
+mul-appointment-after c = search (needs, c .appointment-place .ensures .1)
+
+array-copy-out-appointment-after : tie.Need-array-copy-out-appointment-after Inv-loop μ-loop
+array-copy-out-appointment-after c = c .appointment-place .ensures .1
+
+mul-appointments : tie.Need-mul-appointments Inv-loop μ-loop
+mul-appointments c = search (needs, c .before .before .appointment-place .ensures .1)
+
+array-set-from-appointments : tie.Need-array-set-from-appointments Inv-loop μ-loop
+array-set-from-appointments c = c .before .before .appointment-place .ensures .1
+
+rule-place-requires : tie.Need-rule-place-requires Inv-loop μ-loop
+rule-place-requires c κs =
+    let i = c .before .before .before .before .before .before .before .before in
+    sym (i .before .valid .ensures) ∙ not-false _ (i .if1 .left)
+
+mul-rule-after : tie.Need-mul-rule-after Inv-loop μ-loop
+mul-rule-after c = search (needs, c .rule-place .ensures .1)
+
+array-copy-out-rule-after : tie.Need-array-copy-out-rule-after Inv-loop μ-loop
+array-copy-out-rule-after c = c .rule-place .ensures .1
+
+mul-rules : tie.Need-mul-rules Inv-loop μ-loop
+mul-rules c = search (needs, c .before .before .rule-place .ensures .1)
+
+array-set-from-rules : tie.Need-array-set-from-rules Inv-loop μ-loop
+array-set-from-rules c = c .before .before .rule-place .ensures .1
+
 add-n : tie.Need-add-n Inv-loop μ-loop
 add-n c =
-    let low = number-small (c .before .before .before .before .before .front .result) (sym (c .before .before .before .before .valid .ensures) ∙ not-false _ (c .before .before .before .if1 .left)) in omega (arith, low, c .before .before .number .ensures)
+    let i = c .before .before .before .before .before .before .before .before .before .before .before in
+    let low = number-small (i .before .before .front .result) (sym (i .before .valid .ensures) ∙ not-false _ (i .if1 .left)) in
+    omega (arith, low, c .before .before .before .before .before .before .before .before .before .before .number .ensures)
 
--- src/reading.rt:122:19
-size-requires : tie.Need-size-requires Inv-loop μ-loop
-size-requires c κs = search needs
-
--- src/reading.rt:122:14
 add-at : tie.Need-add-at Inv-loop μ-loop
 add-at c =
-    let inside = record-inside (c .before .before .before .before .before .before .before .before .before .loop .inv) _ (c .before .before .before .before .before .before .before .before .loop-test .taken) (from-part (c .before .before .before .before .before .before .before .before .before .before .before .before .args .card .now) (c .before .before .before .before .before .before .before .before .before .loop .at) (c .before .before .before .before .before .before .front .ensures)) (sym (c .before .before .before .before .before .valid .ensures) ∙ not-false _ (c .before .before .before .before .if1 .left)) in
-    omega (arith, inside, c .size .ensures)
+    let i = c .before .before .before .before .before .before .before .before .before .before .before .before in
+    let t = i .before .before .before .before in
+    let inside = record-inside (t .before .loop .inv) _ (t .loop-test .taken) (i .before .before .front .ensures) (sym (i .before .valid .ensures) ∙ not-false _ (i .if1 .left)) in
+    let s = t .before .before .before .before .before .before in
+    omega (arith, inside, c .size .ensures, s .good .1)
 
--- src/reading.rt:111:5
 loop-less : tie.Need-loop-less Inv-loop μ-loop
 loop-less c =
-    let inside = record-inside (c .before .before .before .before .before .before .before .before .before .loop .inv) _ (c .before .before .before .before .before .before .before .before .loop-test .taken) (from-part (c .before .before .before .before .before .before .before .before .before .before .before .before .args .card .now) (c .before .before .before .before .before .before .before .before .before .loop .at) (c .before .before .before .before .before .before .front .ensures)) (sym (c .before .before .before .before .before .valid .ensures) ∙ not-false _ (c .before .before .before .before .if1 .left)) in
-    omega (arith, inside, c .size .ensures, c .before .before .before .before .before .before .before .before .loop-test .taken)
+    let i = c .before .before .before .before .before .before .before .before .before .before .before .before in
+    let t = i .before .before .before .before in
+    let inside = record-inside (t .before .loop .inv) _ (t .loop-test .taken) (i .before .before .front .ensures) (sym (i .before .valid .ensures) ∙ not-false _ (i .if1 .left)) in
+    omega (arith, inside, c .size .ensures, t .loop-test .taken)
 
--- src/reading.rt:111:5
 loop-again : tie.Need-loop-again Inv-loop μ-loop
 loop-again c =
-    loading-next (c .before .before .before .before .before .before .before .before .before .loop .inv) _ (c .before .before .before .before .before .before .before .before .loop-test .taken) (from-part (c .before .before .before .before .before .before .before .before .before .before .before .before .args .card .now) (c .before .before .before .before .before .before .before .before .before .loop .at) (c .before .before .before .before .before .before .front .ensures)) _ _ _
-    (sym (c .before .before .before .before .before .valid .ensures) ∙ not-false _ (c .before .before .before .before .if1 .left)) (c .before .before .before .number .ensures) (c .before .before .if2 .left) (c .size .ensures) (c .before .store .ensures)
+    let i = c .before .before .before .before .before .before .before .before .before .before .before .before in
+    let t = i .before .before .before .before in
+    let o = t .before .loop in
+    let a = c .before .before .before .before .before .before in
+    let low = a .before .store-low .ensures in
+    let valid = sym (i .before .valid .ensures) ∙ not-false _ (i .if1 .left) in
+    loading-next (t .before .loop .inv) _ (t .loop-test .taken) (i .before .before .front .ensures) _ _ _ valid
+    (c .before .before .before .before .before .before .before .before .before .before .before .number .ensures) (c .before .before .before .before .before .before .before .before .before .before .if2 .left) (c .size .ensures)
+    (rw (low .0, low .1, c .before .before .before .before .appointment-after .ensures, a .appointment-place .ensures .0, c .before .rule-after .ensures, c .before .before .before .rule-place .ensures .0)
+    (store-tabled (o .sorts) (o .members) (o .appointments) (o .rules) (i .before .before .front .result) valid))
 
--- src/reading.rt:105:1
 returns-3 : tie.Need-returns-3 Inv-loop μ-loop
 returns-3 c = loading-end (c .before .loop .inv) (c .loop-test .left)
 
@@ -105,19 +117,31 @@ load-spec =
     (tie.spec
     Inv-loop
     μ-loop
-    blank-requires
+    (λ c κs. search needs)
     loop-holds
-    sub-front
-    part-front-start
-    part-front-end
-    front-requires
-    valid-requires
+    (λ c. search needs)
+    (λ c. search needs)
+    (λ c. search needs)
+    (λ c κs. search needs)
+    (λ c κs. search needs)
     returns
-    number-requires
+    (λ c κs. search needs)
     returns-2
-    store-requires
+    store-low-requires
+    appointment-place-requires
+    mul-appointment-after
+    array-copy-out-appointment-after
+    (λ c κs. search needs)
+    mul-appointments
+    array-set-from-appointments
+    rule-place-requires
+    mul-rule-after
+    array-copy-out-rule-after
+    (λ c κs. search needs)
+    mul-rules
+    array-set-from-rules
     add-n
-    size-requires
+    (λ c κs. search needs)
     add-at
     loop-less
     loop-again
