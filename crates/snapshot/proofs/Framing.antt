@@ -19,7 +19,7 @@ use Rattle.reach.specs.Tables.{View}
 use Rattle.text.specs.Text.{Bytes}
 use Rattle.snapshot.specs.declared.Entry.{Entry}
 use Rattle.snapshot.specs.declared.Entry.the-variants.{Object, Membership, Appointed, Granted, Empty}
-use Rattle.snapshot.specs.Card.{bytesOf, recordOf, from, Framed}
+use Rattle.snapshot.specs.Card.{bytesOf, recordOf, from, EveryFileFramed}
 use Rattle.snapshot.specs.Loading.{places, entry, valid, sizeOf}
 use Rattle.snapshot.proofs.Records.{size-is, size-large}
 use Rattle.snapshot.proofs.Runs.{from-next, from-end}
@@ -105,10 +105,10 @@ module _ (v : View) where
       rw (from-next l n (each bytesOf v), from-next l n (each recordOf v))
       (found-place before n (entry v n) _ _ (entry-fits v n (omega arith)) (found-from l (suc n) (before ++ bytesOf (entry v n)) (omega arith)))
 
-  pub framed : Framed v
-  framed =
-      let f : Found (from places 0 (each bytesOf v)) 0 (from places 0 (each recordOf v)) = found-from places 0 [] (omega arith) in
-      record {
-        records = ap (λ (b : Bytes). recordsFrom b 0) (sym (file-is v)) ∙ f .records ∙ in-order-is recordOf v;
-        whole = ap (λ (b : Bytes). tornFrom b 0) (sym (file-is v)) ∙ f .whole;
-      }
+pub framed : EveryFileFramed
+framed v =
+    let f : Found (from places 0 (each bytesOf v)) 0 (from places 0 (each recordOf v)) = found-from v places 0 [] (omega arith) in
+    record {
+      records = ap (λ (b : Bytes). recordsFrom b 0) (sym (file-is v)) ∙ f .records ∙ in-order-is recordOf v;
+      whole = ap (λ (b : Bytes). tornFrom b 0) (sym (file-is v)) ∙ f .whole;
+    }

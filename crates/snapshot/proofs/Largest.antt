@@ -13,8 +13,8 @@ use Rattle.reach.specs.declared.AccessRule.{AccessRule}
 use Rattle.soundness.specs.Soundness.{Sound}
 use Rattle.snapshot.specs.declared.Entry.the-variants.{Object, Membership, Appointed, Granted, Empty}
 use Rattle.snapshot.specs.Card.{known, bytesOf}
-use Rattle.snapshot.specs.Card.{objectAt, membershipAt, appointedAt, grantedAt, from, inOrder, fileOf}
-use Rattle.snapshot.specs.Answers.{largest}
+use Rattle.snapshot.specs.Card.{objectAt, membershipAt, appointedAt, grantedAt, from, inOrder}
+use Rattle.snapshot.specs.Answers.{NoneLonger}
 use Rattle.snapshot.proofs.Runs.{from-next, from-append, from-length, from-none}
 
 -- ---- The record of a place
@@ -101,7 +101,7 @@ row-length v s x = by (v .sort x) refl
 
 -- ---- The whole
 
-pub largest-file : (v : View) → Sound v → length (fileOf v) ≤ largest
+pub largest-file : NoneLonger
 unfolding inOrder
 largest-file v s =
     let o = from-length 64 0 6 (λ x. bytesOf (objectAt v x)) (λ k a b. object-length v k) in

@@ -1,17 +1,17 @@
 -- The loop of the reader: what is left to read, from the policy so far and the next number on, comes to what the whole card comes to. Each record
 -- that is stored takes one step of `load`.
 use mathlib.Core.Path.{_≡_, refl, sym, ap, _∙_}
-use mathlib.Core.Bool.{Bool, true, false, _&&_, false≢true}
+use mathlib.Core.Bool.{true, false, _&&_, false≢true}
 use mathlib.Core.Logic.{_≢_}
-use mathlib.Core.List.{List, _++_}
+use mathlib.Core.List.{List}
 use Prim.Native.Nat.{ℕ, zero, suc, _+_, _-_, _≤_, _<_}
 use native.Mathlib.Nat.{le-refl}
 use native.Mathlib.Numerals.{add-one}
 use native.Mathlib.Omega.{arith}
-use lib.Dec.{eqb, leb, ltb}
+use lib.Dec.{leb, ltb}
 use lib.ListN.{length, take, drop, replicate, length-drop, length-append}
 use lib.Seq.{take-all, drop-drop, set-getD}
-use borrow.Author.Tests.{eq-eqb, ne-eqb, le-leb, lt-leb, leb-true, ltb-true}
+use borrow.Author.Tests.{eq-eqb, ne-eqb, le-leb, lt-leb, ltb-true}
 use Rattle.reach.specs.declared.Policy.{Policy}
 use Rattle.reach.specs.declared.Appointment.{Appointment}
 use Rattle.reach.specs.declared.AccessRule.{AccessRule}
@@ -20,11 +20,10 @@ use Rattle.reach.specs.Tables.{noAppointment, noRule}
 use Rattle.reach.specs.Successors.{put, appointed, ruled}
 use Rattle.text.specs.Text.{Bytes}
 use Rattle.snapshot.specs.declared.Entry.{Entry}
-use Rattle.snapshot.specs.declared.Loaded.{Loaded}
 use Rattle.snapshot.specs.declared.Entry.the-variants.{Object, Membership, Appointed, Granted, Empty}
 use Rattle.snapshot.specs.Card.{known, bytesOf}
-use Rattle.snapshot.specs.Loading.{places, numberOf, front, valid, sizeOf, store, blank, loaded, damage, load, PartRead}
-use Rattle.snapshot.specs.Loading.{sortsWith, membersWith, appointmentsWith, rulesWith, low, fitsLow, tabled, lowTabled}
+use Rattle.snapshot.specs.Loading.{places, numberOf, front, valid, sizeOf, store, blank, loaded, damage, load}
+use Rattle.snapshot.specs.Loading.{sortsWith, membersWith, appointmentsWith, rulesWith}
 use Rattle.snapshot.proofs.Records.{and-both, and-off, size-is, size-large, front-whole, number-low}
 
 -- ---- One step of `load`
@@ -51,8 +50,23 @@ number-small e v = number-low e v
 
 -- ---- The loop
 
-pub loading-start : (kept : Policy) (b : Bytes) (p : Policy) → p ≡ blank → PartRead kept b p 0 0
-loading-start kept b p e = record { within = omega arith; left = length b; enough = omega arith; whole = rw e }
+-- Where the reader is: what is left to read from the place `at` on, into the policy p and with n as the least number, comes to what the whole
+-- card comes to.
+pub record PartRead (kept : Policy) (b : Bytes) (p : Policy) (n at : ℕ) : Type 0 where
+  pub within : at ≤ length b
+  pub left : ℕ
+  pub enough : length b ≤ at + left
+  pub whole : load kept left p n (drop at b) ≡ load kept (length b) blank 0 b
+
+-- The policy of its four tables.
+abbrev pub tabled : List ℕ → List ℕ → List Appointment → List AccessRule → Policy
+tabled sorts members appointments rules =
+    record { sorts = sorts; members = members; appointments = appointments; rules = rules }
+
+pub loading-start : (kept : Policy) (b : Bytes)
+    → PartRead kept b (tabled (replicate 64 0) (replicate 64 0) (replicate 32 noAppointment) (replicate 64 noRule)) 0 0
+unfolding blank
+loading-start kept b = record { within = omega arith; left = length b; enough = omega arith; whole = refl }
 
 module _ {kept : Policy} {b : Bytes} {p : Policy} {n at : ℕ} (w : PartRead kept b p n at) where
   pub loading-end : length b ≤ at → loaded p ≡ load kept (length b) blank 0 b
@@ -110,9 +124,9 @@ module _ {kept : Policy} {b : Bytes} {p : Policy} {n at : ℕ} (w : PartRead kep
               (rw (v, le-leb n (numberOf e) (omega arith)) at (step (w .left) refl));
         }
 
--- ---- The records that a file begins with
+-- ---- A record in its table
 
--- Its place is on its table.
+-- Its place is on the table.
 pub membership-low : {e : Entry} {x g : ℕ} → e ≡ Membership x g → valid e ≡ true → (x < 64) × (g < 64)
 membership-low {e} {x} {g} q h =
     let w = and-both (ltb x 64) (ltb g 64) (rw q at h) in (ltb-true x 64 (w .0), ltb-true g 64 (w .1))
@@ -133,44 +147,3 @@ store-tabled sorts members appointments rules (Membership x g) v = rw (v, set-ge
 store-tabled sorts members appointments rules (Appointed i k h a b) v = rw (set-getD rules 0 noRule)
 store-tabled sorts members appointments rules (Granted i u t o) v = rw (set-getD appointments 0 noAppointment)
 store-tabled sorts members appointments rules Empty v = absurd (false≢true v)
-
--- An object or a membership changes the first two alone.
-low-only : (e : Entry) (appointments : List Appointment) (rules : List AccessRule) → low e ≡ true
-    → (appointmentsWith appointments e ≡ appointments) × (rulesWith rules e ≡ rules)
-low-only (Object x s) appointments rules l = (set-getD appointments 0 noAppointment, set-getD rules 0 noRule)
-low-only (Membership x g) appointments rules l = (set-getD appointments 0 noAppointment, set-getD rules 0 noRule)
-low-only (Appointed i k h a b) appointments rules l = absurd (false≢true l)
-low-only (Granted i u t o) appointments rules l = absurd (false≢true l)
-low-only Empty appointments rules l = absurd (false≢true l)
-
-store-low : (sorts members : List ℕ) (e : Entry) → low e ≡ true → valid e ≡ true
-    → lowTabled (sortsWith sorts e) (membersWith members e) ≡ store (lowTabled sorts members) e
-store-low sorts members e l v =
-    let same = low-only e (replicate 32 noAppointment) (replicate 64 noRule) l in
-    rw (same .0, same .1) at (store-tabled sorts members (replicate 32 noAppointment) (replicate 64 noRule) e v)
-
-pub low-start : (b : Bytes) (sorts members : List ℕ) → sorts ≡ replicate 64 0 → members ≡ replicate 64 0
-    → (kept : Policy) → PartRead kept b (lowTabled sorts members) 0 0
-unfolding blank
-low-start b sorts members s m kept = loading-start kept b (lowTabled sorts members) (rw (s, m))
-
-module _ (e : Entry) (n : ℕ) (f : fitsLow e n ≡ true) where
-  parts : (low e ≡ true) × (valid e ≡ true) × (n ≤ numberOf e)
-  parts =
-      let a = and-both (low e && valid e) (leb n (numberOf e)) f in
-      let c = and-both (low e) (valid e) (a .0) in (c .0, c .1, leb-true n (numberOf e) (a .1))
-
-  pub fits-valid : valid e ≡ true
-  fits-valid = parts .1
-
-  module _ {b : Bytes} {sorts members : List ℕ} {at : ℕ} (w : (kept : Policy) → PartRead kept b (lowTabled sorts members) n at)
-      (inside : at < length b) (r : e ≡ front (take (length b - at) (drop at b)))
-    where
-      pub low-inside : (at + sizeOf e ≤ length b) × (1 ≤ sizeOf e)
-      low-inside = record-inside (w blank) e inside r fits-valid
-
-      pub low-next : (k m : ℕ) (s t : List ℕ) → k ≡ numberOf e → m ≡ sizeOf e → s ≡ sortsWith sorts e → t ≡ membersWith members e
-          → (kept : Policy) → PartRead kept b (lowTabled s t) (k + 1) (at + m)
-      low-next k m s t q z x y kept =
-          loading-next (w kept) e inside r k m (lowTabled s t) fits-valid q (omega (arith, parts .2)) z
-          (rw (x, y) (store-low sorts members e (parts .0) fits-valid))

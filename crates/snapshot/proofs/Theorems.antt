@@ -22,7 +22,7 @@ use Rattle.snapshot.specs.declared.Status.the-variants.{Done, Damaged, S
 use Rattle.snapshot.specs.declared.Written.{Written}
 use Rattle.snapshot.specs.declared.Loaded.{Loaded}
 use Rattle.snapshot.specs.Card.{fileOf, Same}
-use Rattle.snapshot.specs.Answers.{Writes, Reads, FileOf}
+use Rattle.snapshot.specs.Answers.{Writes, Reads, FileOf, EqualFiles, Returned, WrittenAndRead}
 use Rattle.snapshot.specs.Loading.{places, entry, blank, damage, load}
 use Rattle.snapshot.proofs.Blank.{Inside}
 use Rattle.snapshot.proofs.Taking.{Took, load-took, took-file, taken-or-damage}
@@ -45,13 +45,15 @@ file-entries v w e k h =
     ap (λ (r : Loaded). r .policy) (sym (a .is) ∙ ap (λ (f : Bytes). load blank (length f) blank 0 f) e ∙ b .is) in
     sym (a .entries k h) ∙ ap (λ (r : Policy). entry (view r) k) c ∙ b .entries k h
 
--- [02:2.6] "Two sound sheets have equal files exactly when they agree in every place in use and every membership."
 pub same-of-files : (p q : Policy) → Sized p → Sized q → Sound (view p) → Sound (view q) → fileOf (view p) ≡ fileOf (view q)
     → Same (view p) (view q)
 same-of-files p q z y s t e = same-of-entries p q z y (sound-inside p s) (sound-inside q t) (file-entries (view p) (view q) e)
 
 pub files-of-same : (p q : Policy) → Same (view p) (view q) → fileOf (view p) ≡ fileOf (view q)
 files-of-same p q s = same-file (view p) (view q) s
+
+pub equal-files : EqualFiles
+equal-files p q z y s t = record { same-if-equal = same-of-files p q z y s t; equal-if-same = files-of-same p q }
 
 -- ---- What is read
 
@@ -124,14 +126,8 @@ read-demand3 (Reads.damaged n q) e list = clash-of (sym (ap (λ (x : Loaded). x 
 
 -- ---- Written and read
 
--- [02:2.7] "A sound sheet, written and read, comes back the same in those": by any writer and any reader of these promises.
-pub record Returned (p : Policy) (r : Loaded) : Type 0 where
-  pub done : r .status ≡ Done
-  pub same : Same (view p) (view (r .policy))
-
-pub returned : {p kept : Policy} {lent after : Bytes} {w : Written} {r : Loaded} → Sized p → Writes p lent after w → w .status ≡ Done
-    → Reads kept (take (w .length) after) r → Returned p r
-returned {p} {kept} {lent} {after} {w} {r} z (Writes.done s room is bytes) done reads = by reads
+pub returned : WrittenAndRead
+returned p kept lent after w r z (Writes.done s room is bytes) done reads = by reads
   where
     file : fileOf (view p) ≡ take (w .length) after
     file =
@@ -145,11 +141,11 @@ returned {p} {kept} {lent} {after} {w} {r} z (Writes.done s room is bytes) done 
     by : Reads kept (take (w .length) after) r → Returned p r
     by (Reads.taken c f q same) = record { done = c; same = same p mine }
     by (Reads.damaged none is) = absurd (none p mine)
-returned z (Writes.damaged n is bytes) done reads = clash-of (sym (ap (λ (x : Written). x .status) is) ∙ done)
+returned p kept lent after w r z (Writes.damaged n is bytes) done reads = clash-of (sym (ap (λ (x : Written). x .status) is) ∙ done)
   where
     clash-of : {A : Type 0} → Damaged ≡ Done → A
     clash-of c = clash cc
-returned z (Writes.short s n is bytes) done reads = clash-of (sym (ap (λ (x : Written). x .status) is) ∙ done)
+returned p kept lent after w r z (Writes.short s n is bytes) done reads = clash-of (sym (ap (λ (x : Written). x .status) is) ∙ done)
   where
     clash-of : {A : Type 0} → Short ≡ Done → A
     clash-of c = clash cc

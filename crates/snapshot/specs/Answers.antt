@@ -1,9 +1,9 @@
 -- What the writer of a card and its reader answer.
 use mathlib.Core.Path.{_≡_}
 use Prim.Native.Nat.{ℕ, _≤_, _<_}
-use lib.ListN.{length}
+use lib.ListN.{length, take}
 use Rattle.reach.specs.declared.Policy.{Policy}
-use Rattle.reach.specs.Tables.{view, Sized}
+use Rattle.reach.specs.Tables.{View, view, Sized}
 use Rattle.text.specs.Text.{Bytes}
 use Rattle.list.specs.Filling.{over}
 use Rattle.soundness.specs.Soundness.{Sound}
@@ -19,10 +19,13 @@ codeOf Done = 0
 codeOf Damaged = 13
 codeOf Short = 14
 
--- The most bytes that the file of a sound policy can have: 63 groups and a user, all 4,032 memberships in the groups, 32 appointments and 64
--- rules. That none is longer is proved in proofs/Largest.
+-- How many bytes the file of a sound policy has at the most: with 63 groups and a user, all 4,032 memberships in the groups, 32 appointments and
+-- 64 rules.
 abbrev pub largest : ℕ
 largest = 25376
+
+abbrev pub NoneLonger : Type 0
+NoneLonger = (v : View) → Sound v → length (fileOf v) ≤ largest
 
 -- What is written of the policy p into the lent bytes, which then are `after`.
 pub data Writes (p : Policy) (lent after : Bytes) (r : Written) : Type 0 where
@@ -49,3 +52,23 @@ pub data Reads (kept : Policy) (card : Bytes) (r : Loaded) : Type 0 where
       → ((p : Policy) → FileOf p card → Same (view p) (view (r .policy))) → Reads kept card r
   -- [02:2.10] "13 damaged, .. for any other bytes at the reader, the board's sheet kept"
   damaged : ((p : Policy) → FileOf p card → ⊥) → r ≡ record { status = Damaged; policy = kept } → Reads kept card r
+
+-- ---- What holds of all cards (proved in proofs/Theorems)
+
+-- [02:2.6] "Two sound sheets have equal files exactly when they agree in every place in use and every membership."
+pub record FilesTell (p q : Policy) : Type 0 where
+  pub same-if-equal : fileOf (view p) ≡ fileOf (view q) → Same (view p) (view q)
+  pub equal-if-same : Same (view p) (view q) → fileOf (view p) ≡ fileOf (view q)
+
+abbrev pub EqualFiles : Type 0
+EqualFiles = (p q : Policy) → Sized p → Sized q → Sound (view p) → Sound (view q) → FilesTell p q
+
+-- [02:2.7] "A sound sheet, written and read, comes back the same in those": by any writer and any reader of these promises.
+pub record Returned (p : Policy) (r : Loaded) : Type 0 where
+  pub done : r .status ≡ Done
+  pub same : Same (view p) (view (r .policy))
+
+abbrev pub WrittenAndRead : Type 0
+WrittenAndRead =
+    (p kept : Policy) (lent after : Bytes) (w : Written) (r : Loaded) → Sized p → Writes p lent after w → w .status ≡ Done
+    → Reads kept (take (w .length) after) r → Returned p r

@@ -26,7 +26,7 @@ bytesOf (Appointed i k h a b) = 9 ∷ 0 ∷ 18 ∷ 0 ∷ i ∷ k ∷ h ∷ a ∷
 bytesOf (Granted i u t o) = 8 ∷ 0 ∷ 19 ∷ 0 ∷ i ∷ u ∷ t ∷ o ∷ []
 bytesOf Empty = []
 
--- A sort that counts: an object of any other is an empty place, whatever the place holds.
+-- A sort, or a kind of an appointment, that counts: with any other the place is empty, whatever it holds.
 abbrev pub known : ℕ → Bool
 known s = ltb 0 (counted s)
 
@@ -87,6 +87,9 @@ pub record Framed (v : View) : Type 0 where
   pub records : recordsFrom (fileOf v) 0 ≡ inOrder recordOf v
   pub whole : tornFrom (fileOf v) 0 ≡ false
 
+abbrev pub EveryFileFramed : Type 0
+EveryFileFramed = (v : View) → Framed v
+
 -- [02:2.6] ".. they agree in every place in use and every membership": what stands in a place that is in use with one of them stands there
 -- with the other.
 pub record Same (v w : View) : Type 0 where
@@ -95,7 +98,8 @@ pub record Same (v w : View) : Type 0 where
   pub appointments : (i : ℕ) → Standing (v .appointment i) ⊎ Standing (w .appointment i) → v .appointment i ≡ w .appointment i
   pub rules : (i : ℕ) → (v .rule i .used ≡ true) ⊎ (w .rule i .used ≡ true) → v .rule i ≡ w .rule i
 
--- [02:2.5] ".. a sheet whose empty places hold zeros." A membership has no place of its own: one that is not on the card is not stored.
+-- [02:2.5] ".. a sheet whose empty places hold zeros." A membership has no place of its own: that none is stored but those on the card is said by
+-- FileOf, in Answers.
 pub record Zeroed (p : Policy) : Type 0 where
   pub sorts : (x : ℕ) → known (getD (p .sorts) x 0) ≡ false → getD (p .sorts) x 0 ≡ 0
   pub appointments : (i : ℕ) → standing (appointment p i) ≡ false → appointment p i ≡ noAppointment

@@ -1,4 +1,4 @@
--- The file of a policy on a card; what the writer and the reader answer; how the reader goes.
+-- The file of a policy on a card; what the writer and the reader answer; how the two go.
 pub mod Card
 pub mod Answers
 pub mod Writing

@@ -1,9 +1,8 @@
 -- How the reader goes, for the contracts of its parts: every place has a number in the order of the file, and a record whose number does not
 -- rise is damage. What it answers is said in Answers, with no word of this.
-use mathlib.Core.Path.{_≡_}
 use mathlib.Core.Bool.{Bool, true, false, _&&_}
 use mathlib.Core.List.{List}
-use Prim.Native.Nat.{ℕ, zero, suc, _+_, _-_, _*_, _/_, _%_, _≤_}
+use Prim.Native.Nat.{ℕ, zero, suc, _+_, _-_, _*_, _/_, _%_}
 use lib.Dec.{eqb, leb, ltb}
 use lib.ListN.{length, getD, set, drop, replicate}
 use Rattle.frame.specs.Fields.{byte, lengthField, kindField}
@@ -11,7 +10,7 @@ use Rattle.reach.specs.declared.Policy.{Policy}
 use Rattle.reach.specs.declared.Appointment.{Appointment}
 use Rattle.reach.specs.declared.AccessRule.{AccessRule}
 use Rattle.reach.specs.Tests.{_⇒_∥_}
-use Rattle.reach.specs.Tables.{View, noAppointment, noRule, standing}
+use Rattle.reach.specs.Tables.{View, noAppointment, noRule}
 use Rattle.reach.specs.Successors.{withSorts, addTo, put, appointed, granted}
 use Rattle.text.specs.Text.{Bytes}
 use Rattle.snapshot.specs.declared.Entry.{Entry}
@@ -100,14 +99,6 @@ load kept (suc l) p n b =
     load kept l (store p (front b)) (suc (numberOf (front b))) (drop (sizeOf (front b)) b) ∥
     damage kept
 
--- Where the reader is: what is left to read from the place `at` on, into the policy p and with n as the least number, comes to what the whole
--- file comes to.
-pub record PartRead (kept : Policy) (b : Bytes) (p : Policy) (n at : ℕ) : Type 0 where
-  pub within : at ≤ length b
-  pub left : ℕ
-  pub enough : length b ≤ at + left
-  pub whole : load kept left p n (drop at b) ≡ load kept (length b) blank 0 b
-
 -- The four tables, each with the record in its place if it is of its kind.
 abbrev pub sortsWith : List ℕ → Entry → List ℕ
 sortsWith l (Object x s) = set l x s
@@ -157,23 +148,3 @@ appointmentsWith l e = set l (appointmentPlace e) (appointmentAfter (getD l (app
 
 abbrev pub rulesWith : List AccessRule → Entry → List AccessRule
 rulesWith l e = set l (rulePlace e) (ruleAfter (getD l (rulePlace e) noRule) e)
-
--- Objects and memberships, which a file begins with.
-abbrev pub low : Entry → Bool
-low (Object x s) = true
-low (Membership x g) = true
-low (Appointed i k h a b) = false
-low (Granted i u t o) = false
-low Empty = false
-
--- One of them that can be stored where n is the least number.
-abbrev pub fitsLow : Entry → ℕ → Bool
-fitsLow e n = low e && valid e && leb n (numberOf e)
-
--- The policy of its four tables, and that of the first two, with no appointment and no rule.
-abbrev pub tabled : List ℕ → List ℕ → List Appointment → List AccessRule → Policy
-tabled sorts members appointments rules =
-    record { sorts = sorts; members = members; appointments = appointments; rules = rules }
-
-abbrev pub lowTabled : List ℕ → List ℕ → Policy
-lowTabled sorts members = tabled sorts members (replicate 32 noAppointment) (replicate 64 noRule)

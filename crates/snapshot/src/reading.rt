@@ -4,14 +4,13 @@ ghost use mathlib.Core.Path.{_≡_};
 ghost use mathlib.Core.Bool.{true};
 ghost use mathlib.Core.List.{List};
 ghost use Prim.Native.Nat.{_<_};
-ghost use lib.ListN.{length, replicate};
+ghost use lib.ListN.{length};
 ghost use Rattle.text.specs.Text.{Bytes};
 ghost use Rattle.list.specs.Demand.{Demand3};
 ghost use Rattle.snapshot.specs.declared.Status.the-variants.{Done};
 ghost use Rattle.snapshot.specs.Answers.{Reads};
-ghost use Rattle.snapshot.specs.Loading.{headed, front, valid, blank, load, PartRead};
-ghost use Rattle.snapshot.specs.Loading.{sortsWith, membersWith, low, fitsLow, lowTabled};
-ghost use Rattle.snapshot.specs.Loading.{appointmentPlace, appointmentAfter, rulePlace, ruleAfter};
+ghost use Rattle.snapshot.specs.Loading.{headed, front, valid, blank, damage, load};
+ghost use Rattle.snapshot.specs.Loading.{sortsWith, membersWith, appointmentPlace, appointmentAfter, rulePlace, ruleAfter};
 use crate::Entry;
 use crate::Loaded;
 use crate::Status;
@@ -49,26 +48,6 @@ fn front(b: &[u8]) -> Entry
     Entry::Empty
 }
 
-// Whether the record is an object or a membership.
-fn is_low(e: Entry) -> bool
-    ensures { λ r. ⌜ r ≡ low e ⌝ }
-{
-    match e {
-        Entry::Object(_, _) => true,
-        Entry::Membership(_, _) => true,
-        Entry::Appointed(_, _, _, _, _) => false,
-        Entry::Granted(_, _, _, _) => false,
-        Entry::Empty => false,
-    }
-}
-
-// Whether it is one that can be stored where n is the least number.
-fn fits_low(e: Entry, n: usize) -> bool
-    ensures { λ r. ⌜ r ≡ fitsLow e n ⌝ }
-{
-    is_low(e) & e.valid() & (n <= e.number())
-}
-
 // Stores an object or a membership in its table; a record of another kind changes neither.
 fn store_low(sorts: &mut [u8; 64], members: &mut [u64; 64], e: Entry)
     requires { ⌜ valid e ≡ true ⌝ }
@@ -87,32 +66,6 @@ fn store_low(sorts: &mut [u8; 64], members: &mut [u64; 64], e: Entry)
         Entry::Granted(_, _, _, _) => {}
         Entry::Empty => {}
     }
-}
-
-// Where the reader goes on: the least number of the next record, and its place in the card.
-struct Mark {
-    n: usize,
-    at: usize,
-}
-
-// Stores the objects and memberships that the card begins with, up to the first record that is of another kind or can't be stored.
-fn load_low(card: &[u8], sorts: &mut [u8; 64], members: &mut [u64; 64]) -> Mark
-    requires { ⌜ now sorts ≡ replicate 64 0 ⌝ }
-    requires { ⌜ now members ≡ replicate 64 0 ⌝ }
-    ensures { λ r. ⌜ ((kept : Policy) → PartRead kept (now (card .entry)) (lowTabled (now (sorts .exit)) (now (members .exit))) (r .n) (r .at)) ⌝ }
-{
-    let mut n: usize = 0;
-    let mut at: usize = 0;
-    while at < card.len() {
-        let e = front(&card[at..]);
-        if !fits_low(e, n) {
-            return Mark { n, at };
-        }
-        store_low(sorts, members, e);
-        n = e.number() + 1;
-        at = at + e.size();
-    }
-    Mark { n, at }
 }
 
 // Where an appointment is stored; 0 for a record of another kind.
@@ -181,14 +134,23 @@ fn rule_after(rule: AccessRule, e: Entry) -> AccessRule
     }
 }
 
-// The records of the card, stored in the empty policy. Its tables are kept apart, and every turn stores at one place of each: a policy is
-// 960 bytes, and a function that takes one and gives one copies it for each record.
+// Nothing is read: the board keeps its policy.
+fn damaged(kept: Policy) -> Loaded
+    ensures { λ r. ⌜ r ≡ damage kept ⌝ }
+{
+    Loaded {
+        status: Status::Damaged,
+        policy: kept,
+    }
+}
+
+// The records of the card, stored in the empty policy, each with a higher number than the one before. The tables are kept apart: a policy is 960
+// bytes, and would be copied for each record.
 fn load(kept: Policy, card: &[u8]) -> Loaded
     ensures { λ r. ⌜ r ≡ load kept (length (now (card .entry))) blank 0 (now (card .entry)) ⌝ }
 {
     let mut sorts: [u8; 64] = [0; 64];
     let mut members: [u64; 64] = [0; 64];
-    let mark = load_low(card, &mut sorts, &mut members);
     let mut appointments = [Appointment {
         kind: 0,
         holder: 0,
@@ -201,22 +163,16 @@ fn load(kept: Policy, card: &[u8]) -> Loaded
         targets: 0,
         operations: 0,
     }; 64];
-    let mut n = mark.n;
-    let mut at = mark.at;
+    let mut n: usize = 0;
+    let mut at: usize = 0;
     while at < card.len() {
         let e = front(&card[at..]);
         if !e.valid() {
-            return Loaded {
-                status: Status::Damaged,
-                policy: kept,
-            };
+            return damaged(kept);
         }
         let k = e.number();
         if k < n {
-            return Loaded {
-                status: Status::Damaged,
-                policy: kept,
-            };
+            return damaged(kept);
         }
         store_low(&mut sorts, &mut members, e);
         let i = appointment_place(e);
@@ -249,8 +205,5 @@ pub fn read_card(kept: Policy, card: &[u8]) -> Loaded
     if is_sound(policy) {
         return r;
     }
-    Loaded {
-        status: Status::Damaged,
-        policy: kept,
-    }
+    damaged(kept)
 }

@@ -9,7 +9,7 @@ use lib.ListN.{take}
 use lib.Seq.{take-length}
 use Rattle.reach.specs.declared.Policy.{Policy}
 use Rattle.reach.specs.declared.Appointment.{Appointment}
-use Rattle.reach.specs.Tables.{View, Sized, view, noAppointment, noRule, initial}
+use Rattle.reach.specs.Tables.{View, view, noAppointment, noRule, initial}
 use Rattle.reach.specs.Reach.{InUse, Group}
 use Rattle.reach.specs.Privileges.{owner}
 use Rattle.reach.proofs.Sorts.{counted-known}
@@ -21,11 +21,10 @@ use Rattle.rules.specs.Allowing.{Appointable, Owned}
 use Rattle.rules.proofs.Steps.{Holders, step-owned}
 use Rattle.text.specs.Text.{Bytes}
 use Rattle.list.specs.Runs.{run, end}
-use Rattle.list.specs.Demand.{Demand3}
 use Rattle.list.proofs.Positions.{kept}
 use Rattle.list.proofs.Demanded.{demand3}
 use Rattle.soundness.specs.Soundness.{MembersFit, AppointmentsFit, RulesFit, Sound}
-use Rattle.soundness.specs.Soundness.{KeptByRequests, KeptByLists, FoundingSound, FromFounding}
+use Rattle.soundness.specs.Soundness.{KeptByRequests, KeptByLists, FoundingSound, FromFounding, DemandFromSound}
 use Rattle.soundness.proofs.Staying.{appointable-stays, grantable-stays, made-stays}
 use Rattle.soundness.proofs.Staying.{made-fits, put-fits, taken-fits, appointed-fits, ruled-fits}
 
@@ -140,5 +139,5 @@ pub sound-holders : {v : View} → Sound v → Holders v
 sound-holders s i k = s .appointments i k .holder
 
 -- Demand 3 for every list from a sound start, as from a card that was read: lines end at what stood there.
-pub sound-demand3 : (start : Policy) → Sized start → Sound (view start) → (list : List Bytes) → Demand3 start list
+pub sound-demand3 : DemandFromSound
 sound-demand3 start z s list = demand3 start z (s .owners) (sound-holders s) list

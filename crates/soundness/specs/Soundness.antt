@@ -15,6 +15,7 @@ use Rattle.rules.specs.declared.Request.{Request}
 use Rattle.rules.specs.Allowing.{Standing, Appointable, Owned, viewAfter, Allowed}
 use Rattle.text.specs.Text.{Bytes}
 use Rattle.list.specs.Runs.{run}
+use Rattle.list.specs.Demand.{Demand3}
 
 -- "its stored memberships .. all name objects in use of the right sort": an object of any sort may be a member, and only a group has
 -- members. A membership stored from or to an empty object is a fault, though it counts for nothing.
@@ -68,3 +69,7 @@ FoundingSound = Sound (view initial)
 
 abbrev pub FromFounding : Type 0
 FromFounding = (list : List Bytes) → Sound (view (run initial list))
+
+-- [02:2.9] "demand 3 holds for every list from the read sheet too": from every sound start.
+abbrev pub DemandFromSound : Type 0
+DemandFromSound = (start : Policy) → Sized start → Sound (view start) → (list : List Bytes) → Demand3 start list

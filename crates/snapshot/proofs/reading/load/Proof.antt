@@ -1,12 +1,11 @@
 -- `load` comes to what the whole card comes to: at each turn the rest of it, read into the policy of the four tables, comes to that.
--- It holds where the first loop stops, and each record that is stored takes one step.
+-- Each record that is stored takes one step.
 use mathlib.Core.Path.{sym, _∙_}
 use Prim.Native.Nat.{_-_}
 use native.Mathlib.Omega.{arith}
 use lib.ListN.{length}
 use borrow.Author.Tests.{not-true, not-false}
-use Rattle.snapshot.specs.Loading.{tabled, PartRead}
-use Rattle.snapshot.proofs.Stepping.{number-small, store-tabled, loading-end, loading-unfit, loading-fallen, record-inside, loading-next}
+use Rattle.snapshot.proofs.Stepping.{number-small, PartRead, tabled, store-tabled, loading-start, loading-end, loading-unfit, loading-fallen, record-inside, loading-next}
 use borrow.Author.Needs.{needs}
 use Rattle.snapshot.proofs.reading.load.Statement.{statement}
 use Rattle.snapshot.proofs.reading.load.Tie as tie
@@ -20,20 +19,23 @@ abbrev μ-loop : tie.MeasureT-loop
     length card - at
 
 loop-holds : tie.Need-loop-holds Inv-loop μ-loop
-loop-holds c = c .load-low .ensures (c .before .before .before .before .args .kept)
+loop-holds c = loading-start _ _
 
 returns : tie.Need-returns Inv-loop μ-loop
 returns c =
-    let t = c .before .before .before .before in
-    loading-unfit (t .before .loop .inv) _ (t .loop-test .taken) (c .before .before .front .ensures)
-    (sym (c .before .valid .ensures) ∙ not-true _ (c .if1 .taken))
+    let i = c .before in
+    let t = i .before .before .before .before in
+    c .damaged .ensures
+    ∙ loading-unfit (t .before .loop .inv) _ (t .loop-test .taken) (i .before .before .front .ensures)
+    (sym (i .before .valid .ensures) ∙ not-true _ (i .if1 .taken))
 
 returns-2 : tie.Need-returns-2 Inv-loop μ-loop
 returns-2 c =
-    let i = c .before .before in
+    let i = c .before .before .before in
     let t = i .before .before .before .before in
-    loading-fallen (t .before .loop .inv) _ (t .loop-test .taken) (i .before .before .front .ensures) _ (c .before .number .ensures)
-    (c .if2 .taken)
+    c .damaged2 .ensures
+    ∙ loading-fallen (t .before .loop .inv) _ (t .loop-test .taken) (i .before .before .front .ensures) _ (c .before .before .number .ensures)
+    (omega (arith, c .before .if2 .taken))
 
 store-low-requires : tie.Need-store-low-requires Inv-loop μ-loop
 store-low-requires c κs =
@@ -84,15 +86,17 @@ add-at : tie.Need-add-at Inv-loop μ-loop
 add-at c =
     let i = c .before .before .before .before .before .before .before .before .before .before .before .before in
     let t = i .before .before .before .before in
-    let inside = record-inside (t .before .loop .inv) _ (t .loop-test .taken) (i .before .before .front .ensures) (sym (i .before .valid .ensures) ∙ not-false _ (i .if1 .left)) in
-    let s = t .before .before .before .before .before .before in
+    let valid = sym (i .before .valid .ensures) ∙ not-false _ (i .if1 .left) in
+    let inside = record-inside (t .before .loop .inv) _ (t .loop-test .taken) (i .before .before .front .ensures) valid in
+    let s = t .before .before .before in
     omega (arith, inside, c .size .ensures, s .good .1)
 
 loop-less : tie.Need-loop-less Inv-loop μ-loop
 loop-less c =
     let i = c .before .before .before .before .before .before .before .before .before .before .before .before in
     let t = i .before .before .before .before in
-    let inside = record-inside (t .before .loop .inv) _ (t .loop-test .taken) (i .before .before .front .ensures) (sym (i .before .valid .ensures) ∙ not-false _ (i .if1 .left)) in
+    let valid = sym (i .before .valid .ensures) ∙ not-false _ (i .if1 .left) in
+    let inside = record-inside (t .before .loop .inv) _ (t .loop-test .taken) (i .before .before .front .ensures) valid in
     omega (arith, inside, c .size .ensures, t .loop-test .taken)
 
 loop-again : tie.Need-loop-again Inv-loop μ-loop
@@ -100,12 +104,20 @@ loop-again c =
     let i = c .before .before .before .before .before .before .before .before .before .before .before .before in
     let t = i .before .before .before .before in
     let o = t .before .loop in
+    let k = c .before .before .before .before .before .before .before .before .before .before in
     let a = c .before .before .before .before .before .before in
     let low = a .before .store-low .ensures in
     let valid = sym (i .before .valid .ensures) ∙ not-false _ (i .if1 .left) in
     loading-next (t .before .loop .inv) _ (t .loop-test .taken) (i .before .before .front .ensures) _ _ _ valid
-    (c .before .before .before .before .before .before .before .before .before .before .before .number .ensures) (c .before .before .before .before .before .before .before .before .before .before .if2 .left) (c .size .ensures)
-    (rw (low .0, low .1, c .before .before .before .before .appointment-after .ensures, a .appointment-place .ensures .0, c .before .rule-after .ensures, c .before .before .before .rule-place .ensures .0)
+    (k .before .number .ensures) (k .if2 .left) (c .size .ensures)
+    (rw (
+      low .0,
+      low .1,
+      c .before .before .before .before .appointment-after .ensures,
+      a .appointment-place .ensures .0,
+      c .before .rule-after .ensures,
+      c .before .before .before .rule-place .ensures .0,
+    )
     (store-tabled (o .sorts) (o .members) (o .appointments) (o .rules) (i .before .before .front .result) valid))
 
 returns-3 : tie.Need-returns-3 Inv-loop μ-loop
@@ -117,14 +129,15 @@ load-spec =
     (tie.spec
     Inv-loop
     μ-loop
-    (λ c κs. search needs)
     loop-holds
     (λ c. search needs)
     (λ c. search needs)
     (λ c. search needs)
     (λ c κs. search needs)
     (λ c κs. search needs)
+    (λ c κs. search needs)
     returns
+    (λ c κs. search needs)
     (λ c κs. search needs)
     returns-2
     store-low-requires

@@ -5,7 +5,6 @@ use native.Mathlib.Omega.{arith}
 use borrow.Author.Tests.{not-true, not-false}
 use Rattle.reach.proofs.Testing.{refuted}
 use Rattle.snapshot.specs.declared.Status.the-variants.{Done}
-use Rattle.snapshot.specs.declared.Written.{Written}
 use Rattle.snapshot.specs.Answers.{Writes}
 use Rattle.snapshot.proofs.Penning.{over-of-penned, length-of-penned}
 use borrow.Author.Needs.{needs}
