@@ -5,11 +5,13 @@
     run_cards.py --self-test   show that programs which are wrong on purpose are noticed
 
 Each card is written in a folder of its own, and the program is run there. What it prints, what it says on standard error and
-what it leaves in the folder must be what stands below, which is worked by hand from document 02 and not by any program.
+what it leaves in the folder must be what stands below: the cards are worked by hand from document 02, and the answers to the
+sample are those of the board (crates/runner/stdout).
 The exit status is 0 if all of it is, and else 1, with the first difference.
 """
 
 import argparse
+import os
 import subprocess
 import sys
 import tempfile
@@ -52,8 +54,9 @@ FULL = card_of(
 
 
 def run(program, words, data, folder):
-    """What the program prints, and what it says on standard error."""
-    done = subprocess.run([str(program), *words], input=data, cwd=folder, capture_output=True, timeout=SECONDS, check=False)
+    """What the program prints, and what it says on standard error. The data is bytes, or what is opened as standard input."""
+    given = dict(input=data) if isinstance(data, bytes) else dict(stdin=data)
+    done = subprocess.run([str(program), *words], **given, cwd=folder, capture_output=True, timeout=SECONDS, check=False)
     if done.returncode != 0:
         raise Wrong(f"card {' '.join(words)}: it ends with the status {done.returncode}")
     return done.stdout, done.stderr
@@ -148,6 +151,14 @@ def complains(program):
             (["save", "none/club.card"], b"No such file or directory"),
         ):
             folder(f"card {' '.join(words)}", words, b"", b"", b"%s: %s\n" % (words[1].encode(), why))
+    unread = b"standard input: Is a directory\n"
+    folder_as_input = os.open(ROOT, os.O_RDONLY)
+    try:
+        for word in ("save", "load"):
+            with Folder(program, SAMPLE) as folder:
+                folder(f"{word}, with a folder as standard input", [word, NAME], folder_as_input, b"", unread, card=SAMPLE)
+    finally:
+        os.close(folder_as_input)
     long = bytes(25377)
     with Folder(program, long) as folder:
         folder("a card of 25,377 bytes", ["load", NAME], b"", b"",
@@ -161,22 +172,29 @@ def run_cards(program):
         part(program)
 
 
+# Prints what the board prints for the sample, if that is what was read.
+FAKE_LINES = f"print(open({str(ROOT / 'crates/runner/stdout')!r}).read() if len(d) > 99 else '', end='')"
+
+
 def self_test():
-    """Programs that are wrong on purpose: one that always says the same, one that calls every card good, one that says nothing."""
-    for body in (
-        "print('0 27')",
-        "import sys; print(0 if sys.argv[1] == 'load' else '0 27')",
-        "",
+    """Programs that are wrong on purpose, each held to the part that should notice it."""
+    for part, about, body in (
+        (saves, "writes no card", "print('0 27')"),
+        (saves, "writes the founding's card alone", f"open({NAME!r}, 'wb').write({FOUNDING!r}); print('0 27')"),
+        (loads, "calls every card good", f"import sys; d = sys.stdin.buffer.read(); print(0); {FAKE_LINES}"),
+        (loads, "calls every card damaged", f"import sys; d = sys.stdin.buffer.read(); print(13); {FAKE_LINES}"),
+        (complains, "says nothing", ""),
+        (complains, "takes every word", "print(0)"),
     ):
         with tempfile.TemporaryDirectory() as folder:
             program = Path(folder) / "card"
             program.write_text(f"#!{sys.executable}\n{body}\n")
             program.chmod(0o755)
             try:
-                run_cards(program)
+                part(program)
             except Wrong:
                 continue
-            raise SystemExit(f"this program passes, and should not: {body!r}")
+            raise SystemExit(f"a program that {about} passes, and should not")
     print("self-test passed")
 
 

@@ -14,7 +14,7 @@ use Rattle.text.proofs.Writing.{wrote-then, printed-of-wrote}
 use Rattle.reach.specs.declared.Policy.{Policy}
 use Rattle.reach.specs.Tests.{_⇒_∥_}
 use Rattle.reach.specs.Tables.{initial}
-use Rattle.list.specs.Report.{answersFrom, tooLong}
+use Rattle.list.specs.Report.{answersFrom, tooLong, report, output}
 use Rattle.list.specs.Demand.{Demand3}
 use Rattle.list.proofs.Room.{lines-from-fit}
 use Rattle.list.proofs.Demanded.{third}
@@ -25,6 +25,11 @@ use Rattle.snapshot.specs.Answers.{codeOf, Reads}
 use Rattle.card.specs.declared.Told.{Told}
 use Rattle.card.specs.Program.{isLong, Shows, codeLine, outputFrom, Loads}
 use Rattle.card.proofs.Showing.{is-long, not-long, shows-of-printed}
+
+-- From the founding it is what the runner prints.
+pub output-founding : (input : Bytes) → outputFrom initial input ≡ output input
+unfolding outputFrom output report
+output-founding input = refl
 
 -- An input that is too long, and any other.
 pub printed-long : (p : Policy) (input : Bytes) {out out′ : Bytes} {n : ℕ} → 65536 < length input → Wrote out 0 tooLong out′ n

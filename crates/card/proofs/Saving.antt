@@ -15,6 +15,7 @@ use Rattle.reach.specs.Tables.{view, initial}
 use Rattle.list.specs.Runs.{run}
 use Rattle.list.specs.Report.{tooLong}
 use Rattle.list.specs.Filling.{over}
+use Rattle.list.proofs.Demanded.{third}
 use Rattle.soundness.specs.Soundness.{Sound}
 use Rattle.soundness.proofs.Keeping.{from-founding}
 use Rattle.snapshot.specs.declared.Written.{Written}
@@ -41,6 +42,7 @@ saves-long read buffer e h room w =
       on-card = rw long;
       length-told = rw long;
       line = rw long (shows-of-printed (printed-of-wrote w) (omega (arith, room)));
+      demand = third (recordsFrom (take read buffer) 0);
     }
 
 -- What the writer does with a sound policy, in a buffer that has room for each of them.
@@ -70,6 +72,7 @@ saves-done input {p} {card} {card′} {line} {line′} {w} {n} h is room writes 
       on-card = rw short (done .1 ∙ ap (λ (f : Bytes). over f card) file);
       length-told = rw short told;
       line = rw short (shows-of-printed said (omega (arith, long, line-fits (length (cardOf input)) small)));
+      demand = third (recordsFrom input 0);
     }
 
 -- The same of the part of a buffer, with the policy that is written apart from the one that the list leaves.

@@ -14,7 +14,7 @@ use Rattle.reach.specs.Tables.{view, initial}
 use Rattle.list.specs.Runs.{run}
 use Rattle.list.specs.Report.{answersFrom, tooLong}
 use Rattle.list.specs.Filling.{over}
-use Rattle.list.specs.Demand.{Demand3}
+use Rattle.list.specs.Demand.{Demand3, FoundingDemand3}
 use Rattle.snapshot.specs.declared.Loaded.{Loaded}
 use Rattle.snapshot.specs.Card.{fileOf}
 use Rattle.snapshot.specs.Answers.{codeOf, Reads}
@@ -50,6 +50,8 @@ pub record Saves (input card card′ line′ : Bytes) (r : Saved) : Type 0 where
   pub length-told : r .length ≡ (isLong input ⇒ 0 ∥ length (cardOf input))
   -- The line says so, with the code 0: no list leads from the founding to a policy that isn't sound, and there is room for every sound one.
   pub line : Shows line′ (r .printed) (isLong input ⇒ tooLong ∥ savedLine 0 (length (cardOf input)))
+  -- Of the records that are run demand 3 holds, whole.
+  pub demand : FoundingDemand3 (recordsFrom input 0)
 
 -- ".XXXXXX", the end of the name of a new file: the system chooses the six letters.
 abbrev pub sixUnknown : Bytes
@@ -57,7 +59,7 @@ sixUnknown = 46 ∷ 88 ∷ 88 ∷ 88 ∷ 88 ∷ 88 ∷ 88 ∷ []
 
 -- ---- Loading
 
--- What is printed for an input that is judged from the policy p.
+-- What is printed for an input that is judged from the policy p: from the founding what the runner prints (`proofs/Loading.output-founding`).
 unfoldable pub outputFrom : Policy → Bytes → Bytes
 outputFrom p input = isLong input ⇒ tooLong ∥ lines 0 (answersFrom p input 0)
 

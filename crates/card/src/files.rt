@@ -24,18 +24,28 @@ pub fn fetch(name: &[u8], card: &mut [u8; 25377]) -> Fetched {
     fetched
 }
 
-// The same of an open file.
-fn read_to_end(fd: i32, card: &mut [u8]) -> Fetched {
+// Reads standard input until it ends or the buffer is full. If it can't be read, a line on standard error says why: the first part of a list is
+// not the list.
+pub fn read_input(input: &mut [u8; 65537]) -> Fetched {
+    let fetched = read_to_end(libc::STDIN_FILENO, input);
+    if !fetched.is_read {
+        os::fail(b"standard input");
+    }
+    fetched
+}
+
+// Reads an open file until it ends or the buffer is full.
+fn read_to_end(fd: i32, buffer: &mut [u8]) -> Fetched {
     let mut done: usize = 0;
-    while done < card.len() {
-        let got = libc::read(fd, &mut card[done..]);
+    while done < buffer.len() {
+        let got = libc::read(fd, &mut buffer[done..]);
         if got < 0 {
             return Fetched {
                 is_read: false,
                 count: 0,
             };
         }
-        let more = io::count(got, &card[done..]);
+        let more = io::count(got, &buffer[done..]);
         if more == 0 {
             break;
         }

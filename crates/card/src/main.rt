@@ -5,9 +5,9 @@ mod files;
 mod texts;
 
 use files::fetch;
+use files::read_input;
 use files::replace;
 use libc::STDERR_FILENO;
-use libc::STDIN_FILENO;
 use libc::STDOUT_FILENO;
 use texts::load_and_judge;
 use texts::save_list;
@@ -34,7 +34,11 @@ pub struct Fetched {
 // `card save NAME`. The line is printed once the card is in its place.
 fn save(name: &[u8]) {
     let mut input = [0u8; 65537];
-    let read = io::read_full(STDIN_FILENO, &mut input);
+    let fetched = read_input(&mut input);
+    if !fetched.is_read {
+        return;
+    }
+    let read = fetched.count;
     let mut card = [0u8; 25376];
     let mut line = [0u8; 16];
     let saved = save_list(&input, read, &mut card, &mut line);
@@ -65,7 +69,11 @@ fn load(name: &[u8]) {
         return;
     }
     let mut input = [0u8; 65537];
-    let read = io::read_full(STDIN_FILENO, &mut input);
+    let requests = read_input(&mut input);
+    if !requests.is_read {
+        return;
+    }
+    let read = requests.count;
     let mut head = [0u8; 4];
     let mut text = [0u8; 212992];
     let told = load_and_judge(&card, count, &input, read, &mut head, &mut text);

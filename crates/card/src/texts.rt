@@ -53,8 +53,8 @@ fn put_saved(line: &mut [u8], w: Written) -> usize
     put_byte(line, after_length, b'\n')
 }
 
-// Saves what the requests that were read leave from the founding: the card, and the line to print once it is in its place. A full buffer is
-// too long: what is saved is never what the first part of a longer input leaves.
+// Saves what the requests that were read leave from the founding: the card, and the line to print once it is in its place. Of an input of more
+// than 65,536 bytes, which a full buffer is, nothing is saved; of one with a torn place, what the records before it leave.
 pub fn save_list(
     input: &[u8; 65537],
     read: usize,

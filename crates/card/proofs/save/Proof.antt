@@ -6,10 +6,10 @@ use Rattle.card.proofs.save.Statement.{statement}
 use Rattle.card.proofs.save.Tie as tie
 
 array-share-prefix-card : tie.Need-array-share-prefix-card
-array-share-prefix-card c = shows-within (card-shows (c .before .save-list .ensures .0) (c .if1 .taken))
+array-share-prefix-card c = shows-within (card-shows (c .before .save-list .ensures .0) (c .if2 .taken))
 
 slice-aggregate-replace : tie.Need-slice-aggregate-replace
-slice-aggregate-replace c = shows-length (card-shows (c .before .before .save-list .ensures .0) (c .before .if1 .taken))
+slice-aggregate-replace c = shows-length (card-shows (c .before .before .save-list .ensures .0) (c .before .if2 .taken))
 
 array-share-prefix-line : tie.Need-array-share-prefix-line
 array-share-prefix-line c = shows-within (c .before .save-list .ensures .0 .line)
@@ -21,8 +21,8 @@ pub save-spec : {M : Type 1} → statement M
 save-spec =
     tie.close
     (tie.spec
-    (λ c. search needs)
     (λ c κs. search needs)
+    (λ c. search needs)
     (λ c κs. search needs)
     array-share-prefix-card
     slice-aggregate-replace

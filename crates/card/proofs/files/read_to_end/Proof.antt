@@ -7,10 +7,10 @@ use Rattle.card.proofs.files.read_to_end.Statement.{statement}
 use Rattle.card.proofs.files.read_to_end.Tie as tie
 
 abbrev Inv-loop : tie.InvT-loop
-Inv-loop fd card₀ done₀ card done = length card₀ ≡ length card
+Inv-loop fd buffer₀ done₀ buffer done = length buffer₀ ≡ length buffer
 
 abbrev μ-loop : tie.MeasureT-loop
-μ-loop fd card₀ done₀ card done = length card - done
+μ-loop fd buffer₀ done₀ buffer done = length buffer - done
 
 loop-holds : tie.Need-loop-holds Inv-loop μ-loop
 loop-holds c = refl
