@@ -112,16 +112,16 @@ module _ {kept : Policy} {b : Bytes} {p : Policy} {n at : ℕ} (w : PartRead kep
           omega (arith, size-large e v),
         )
 
-    pub loading-next : (k m : ℕ) (t : Policy) → valid e ≡ true → k ≡ numberOf e → n ≤ k → m ≡ sizeOf e → t ≡ store p e
-        → PartRead kept b t (k + 1) (at + m)
-    loading-next k m t v q l z x =
+    pub loading-next : (next place : ℕ) (t : Policy) → valid e ≡ true → n ≤ numberOf e → next ≡ numberOf e + 1 → place ≡ at + sizeOf e
+        → t ≡ store p e → PartRead kept b t next place
+    loading-next next place t v l q z x =
         record {
           within = omega (arith, record-inside v);
           left = w .left - 1;
           enough = omega (arith, w .enough, size-large e v);
           whole =
-              rw (x, add-one, q, z, ← drop-drop (sizeOf e) at b)
-              (rw (v, le-leb n (numberOf e) (omega arith)) at (step (w .left) refl));
+              rw (x, q, add-one, z, ← drop-drop (sizeOf e) at b)
+              (rw (v, le-leb n (numberOf e) l) at (step (w .left) refl));
         }
 
 -- ---- A record in its table

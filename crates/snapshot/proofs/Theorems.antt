@@ -81,13 +81,17 @@ given kept p b f =
     a : Back (view p) (load kept (length (fileOf (view p))) blank 0 (fileOf (view p)))
     a = load-back kept (view p)
 
-module _ (kept : Policy) (b : Bytes) {r : Loaded} {t : Bool} (e : r ≡ load kept (length b) blank 0 b)
-    (d : Decides t (Sound (view (r .policy)))) where
+module _ (kept : Policy) (b : Bytes) {r : Loaded} (e : r ≡ load kept (length b) blank 0 b) {t : Bool} {asked : Policy}
+    (same : asked ≡ r .policy) (tested : Decides t (Sound (view asked))) where
+  -- Whether the policy that was loaded is sound.
+  d : Decides t (Sound (view (r .policy)))
+  d = subst (λ (p : Policy). Decides t (Sound (view p))) same tested
+
   none-of-unsound : t ≡ false → (p : Policy) → FileOf p b → ⊥
   none-of-unsound q p f = refuted d q (subst (λ (x : Loaded). Sound (view (x .policy))) (sym e) (given kept p b f .sound))
 
-  pub reads-unsound : t ≡ false → Reads kept b (damage kept)
-  reads-unsound q = Reads.damaged (none-of-unsound q) refl
+  pub reads-unsound : t ≡ false → {x : Loaded} → x ≡ damage kept → Reads kept b x
+  reads-unsound q is = Reads.damaged (none-of-unsound q) is
 
   loaded-done : r .status ≡ Done → Took blank 0 b (r .policy)
   loaded-done c =
@@ -117,12 +121,17 @@ module _ (kept : Policy) (b : Bytes) {r : Loaded} {t : Bool} (e : r ≡ load kep
           (λ p h. same-of-files p (r .policy) (h .sized) (f .sized) (h .sound) (f .sound) (h .file ∙ sym (f .file)))
 
 -- [02:2.9] "After a read, demand 3 holds for every list from the read sheet too"
-pub read-demand3 : {kept : Policy} {b : Bytes} {r : Loaded} → Reads kept b r → r .status ≡ Done → (list : List Bytes) → Demand3 (r .policy) list
+read-demand3 : {kept : Policy} {b : Bytes} {r : Loaded} → Reads kept b r → r .status ≡ Done → (list : List Bytes) → Demand3 (r .policy) list
 read-demand3 (Reads.taken c f z s) e list = sound-demand3 _ (f .sized) (f .sound) list
 read-demand3 (Reads.damaged n q) e list = clash-of (sym (ap (λ (x : Loaded). x .status) q) ∙ e)
   where
     clash-of : {A : Type 0} → Damaged ≡ Done → A
     clash-of c = clash cc
+
+-- The two clauses of the reader's contract.
+pub with-demand3 : {kept : Policy} {b : Bytes} {r : Loaded} → Reads kept b r
+    → Reads kept b r × (r .status ≡ Done → (list : List Bytes) → Demand3 (r .policy) list)
+with-demand3 reads = (reads, read-demand3 reads)
 
 -- ---- Written and read
 

@@ -108,8 +108,9 @@ loop-again c =
     let a = c .before .before .before .before .before .before in
     let low = a .before .store-low .ensures in
     let valid = sym (i .before .valid .ensures) ∙ not-false _ (i .if1 .left) in
+    let number = k .before .number .ensures in
     loading-next (t .before .loop .inv) _ (t .loop-test .taken) (i .before .before .front .ensures) _ _ _ valid
-    (k .before .number .ensures) (k .if2 .left) (c .size .ensures)
+    (omega (arith, number, k .if2 .left)) (omega (arith, number)) (omega (arith, c .size .ensures))
     (rw (
       low .0,
       low .1,
