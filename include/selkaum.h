@@ -23,7 +23,7 @@ extern "C" {
  *   704 .. 959   64 rules of 4 bytes: mark (1 in use, else empty), U, T, operations
  *
  * A mark that is neither 0 nor 1 is an empty place, and comes back as 0, even with a refusal; all other bytes of a picture are kept as
- * they are, but for what an accepted record changes.
+ * they are, but for what an accepted record or a card that is read changes.
  *
  * The founding's picture has 1 at byte 0, 2 at byte 1, 2 at byte 64, 1 at bytes 576 and 577, and 0 elsewhere.
  */
@@ -82,8 +82,8 @@ size_t selkaum_gain(const uint8_t *policy, size_t policy_len,
  * They stand rising by kind, then by number or place; memberships by object, then group. Only what is in use has a record. A policy is sound
  * if every stored membership is of an object in use in a group, every appointment in use has a member (user) as holder, a group A, and a
  * group B (kind 3) or B 0 (kinds 1 and 2), every rule in use has groups U and T and some operation, and every object in use has an owner.
- * Every policy that the board comes to from the founding is sound. A policy with nothing in use is sound too, and its file has no bytes: a
- * refusal is told by the code, and never by a length of 0.
+ * Every policy that the board comes to from the founding is sound. A policy with nothing in use and no stored membership is sound too, and
+ * its file has no bytes: a refusal is told by the code, and never by a length of 0.
  */
 #define SELKAUM_LARGEST_CARD 25376
 #define SELKAUM_CARD_ANSWER_BYTES 961
