@@ -7,23 +7,75 @@ use Rattle.snapshot.proofs.reading.front.Tie as tie
 
 returns : tie.Need-returns
 unfolding front
-returns c = simp (← c .before .before .before .headed .ensures, c .before .before .if1 .taken) (rw (c .before .byte .ensures, c .byte2 .ensures))
+returns c =
+    let i = c .before .before in
+    simp (← i .before .headed .ensures, i .if1 .taken) (rw (c .before .byte .ensures, c .byte2 .ensures))
 
 returns-2 : tie.Need-returns-2
 unfolding front
-returns-2 c = simp (← c .before .before .before .before .before .headed .ensures, c .before .before .before .before .if1 .left, ← c .before .before .before .headed2 .ensures, c .before .before .if2 .taken) (rw (c .before .byte3 .ensures, c .byte4 .ensures))
+returns-2 c =
+    let j = c .before .before in
+    let i = j .before .before in
+    simp (← i .before .headed .ensures, i .if1 .left, ← j .before .headed2 .ensures, j .if2 .taken)
+    (rw (c .before .byte3 .ensures, c .byte4 .ensures))
 
 returns-3 : tie.Need-returns-3
 unfolding front
-returns-3 c = simp (← c .before .before .before .before .before .before .before .before .before .before .headed .ensures, c .before .before .before .before .before .before .before .before .before .if1 .left, ← c .before .before .before .before .before .before .before .before .headed2 .ensures, c .before .before .before .before .before .before .before .if2 .left, ← c .before .before .before .before .before .before .headed3 .ensures, c .before .before .before .before .before .if3 .taken) (rw (c .before .before .before .before .byte5 .ensures, c .before .before .before .byte6 .ensures, c .before .before .byte7 .ensures, c .before .byte8 .ensures, c .byte9 .ensures))
+returns-3 c =
+    let k = c .before .before .before .before .before in
+    let j = k .before .before in
+    let i = j .before .before in
+    simp (
+      ← i .before .headed .ensures,
+      i .if1 .left,
+      ← j .before .headed2 .ensures,
+      j .if2 .left,
+      ← k .before .headed3 .ensures,
+      k .if3 .taken,
+    )
+    (rw (
+      c .before .before .before .before .byte5 .ensures,
+      c .before .before .before .byte6 .ensures,
+      c .before .before .byte7 .ensures,
+      c .before .byte8 .ensures,
+      c .byte9 .ensures,
+    ))
 
 returns-4 : tie.Need-returns-4
 unfolding front
-returns-4 c = simp (← c .before .before .before .before .before .before .before .before .before .before .before .headed .ensures, c .before .before .before .before .before .before .before .before .before .before .if1 .left, ← c .before .before .before .before .before .before .before .before .before .headed2 .ensures, c .before .before .before .before .before .before .before .before .if2 .left, ← c .before .before .before .before .before .before .before .headed3 .ensures, c .before .before .before .before .before .before .if3 .left, ← c .before .before .before .before .before .headed4 .ensures, c .before .before .before .before .if4 .taken) (rw (c .before .before .before .byte10 .ensures, c .before .before .byte11 .ensures, c .before .byte12 .ensures, c .byte13 .ensures))
+returns-4 c =
+    let l = c .before .before .before .before in
+    let k = l .before .before in
+    let j = k .before .before in
+    let i = j .before .before in
+    simp (
+      ← i .before .headed .ensures,
+      i .if1 .left,
+      ← j .before .headed2 .ensures,
+      j .if2 .left,
+      ← k .before .headed3 .ensures,
+      k .if3 .left,
+      ← l .before .headed4 .ensures,
+      l .if4 .taken,
+    )
+    (rw (c .before .before .before .byte10 .ensures, c .before .before .byte11 .ensures, c .before .byte12 .ensures, c .byte13 .ensures))
 
 returns-5 : tie.Need-returns-5
 unfolding front
-returns-5 c = simp (← c .before .before .before .before .before .before .before .headed .ensures, c .before .before .before .before .before .before .if1 .left, ← c .before .before .before .before .before .headed2 .ensures, c .before .before .before .before .if2 .left, ← c .before .before .before .headed3 .ensures, c .before .before .if3 .left, ← c .before .headed4 .ensures, c .if4 .left)
+returns-5 c =
+    let k = c .before .before in
+    let j = k .before .before in
+    let i = j .before .before in
+    simp (
+      ← i .before .headed .ensures,
+      i .if1 .left,
+      ← j .before .headed2 .ensures,
+      j .if2 .left,
+      ← k .before .headed3 .ensures,
+      k .if3 .left,
+      ← c .before .headed4 .ensures,
+      c .if4 .left,
+    )
 
 pub front-spec : {M : Type 1} → statement M
 front-spec =

@@ -5,7 +5,8 @@ use Prim.Native.Nat.{_-_}
 use native.Mathlib.Omega.{arith}
 use lib.ListN.{length}
 use borrow.Author.Tests.{not-true, not-false}
-use Rattle.snapshot.proofs.Stepping.{number-small, PartRead, tabled, store-tabled, loading-start, loading-end, loading-unfit, loading-fallen, record-inside, loading-next}
+use Rattle.snapshot.proofs.Stepping.{number-small, PartRead, tabled, store-tabled, loading-start}
+use Rattle.snapshot.proofs.Stepping.{loading-end, loading-unfit, loading-fallen, record-inside, loading-next}
 use borrow.Author.Needs.{needs}
 use Rattle.snapshot.proofs.reading.load.Statement.{statement}
 use Rattle.snapshot.proofs.reading.load.Tie as tie

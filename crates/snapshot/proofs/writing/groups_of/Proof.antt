@@ -28,10 +28,9 @@ loop-less : tie.Need-loop-less Inv-loop μ-loop
 loop-less c = omega (arith, c .before .before .before .loop-test .taken)
 
 loop-again : tie.Need-loop-again Inv-loop μ-loop
-loop-again c = (
-  search needs,
-  gathered-next _ (c .before .before .before .before .loop .inv .1) (c .marked .ensures) (decides-at (c .before .has .ensures) (decides-true _)),
-)
+loop-again c =
+    let o = c .before .before .before .before .loop in
+    (search needs, gathered-next _ (o .inv .1) (c .marked .ensures) (decides-at (c .before .has .ensures) (decides-true _)))
 
 returns-2 : tie.Need-returns-2 Inv-loop μ-loop
 returns-2 c =

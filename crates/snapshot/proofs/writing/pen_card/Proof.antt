@@ -9,27 +9,44 @@ use Rattle.snapshot.proofs.writing.pen_card.Tie as tie
 
 pen-memberships-requires : tie.Need-pen-memberships-requires
 pen-memberships-requires c κs =
-    let objects = (records-needed 64 (objectAt (view (c .before .before .before .before .before .before .args .p))) (c .before .before .before .pen-objects .ensures)) in omega (arith, objects)
+    let o = c .before .before .before in
+    let p = o .before .before .before .args .p in
+    omega (arith, records-needed 64 (objectAt (view p)) (o .pen-objects .ensures))
 
 pen-appointments-requires : tie.Need-pen-appointments-requires
 pen-appointments-requires c κs =
-    let objects = (records-needed 64 (objectAt (view (c .before .before .before .before .before .before .before .before .before .before .args .p))) (c .before .before .before .before .before .before .before .pen-objects .ensures)) in
-    let memberships = (rows-needed (membershipAt (view (c .before .before .before .before .before .before .before .before .before .before .args .p))) (c .before .before .before .pen-memberships .ensures)) in
-    omega (arith, objects, memberships)
+    let m = c .before .before .before in
+    let o = m .before .before .before .before in
+    let p = o .before .before .before .args .p in
+    omega (
+      arith,
+      records-needed 64 (objectAt (view p)) (o .pen-objects .ensures),
+      rows-needed (membershipAt (view p)) (m .pen-memberships .ensures),
+    )
 
 pen-rules-requires : tie.Need-pen-rules-requires
 pen-rules-requires c κs =
-    let objects = (records-needed 64 (objectAt (view (c .before .before .before .before .before .before .before .before .before .before .before .before .before .before .args .p))) (c .before .before .before .before .before .before .before .before .before .before .before .pen-objects .ensures)) in
-    let memberships = (rows-needed (membershipAt (view (c .before .before .before .before .before .before .before .before .before .before .before .before .before .before .args .p))) (c .before .before .before .before .before .before .before .pen-memberships .ensures)) in
-    let appointments = (records-needed 32 (appointedAt (view (c .before .before .before .before .before .before .before .before .before .before .before .before .before .before .args .p))) (c .before .before .before .pen-appointments .ensures)) in
-    omega (arith, objects, memberships, appointments)
+    let a = c .before .before .before in
+    let m = a .before .before .before .before in
+    let o = m .before .before .before .before in
+    let p = o .before .before .before .args .p in
+    omega (
+      arith,
+      records-needed 64 (objectAt (view p)) (o .pen-objects .ensures),
+      rows-needed (membershipAt (view p)) (m .pen-memberships .ensures),
+      records-needed 32 (appointedAt (view p)) (a .pen-appointments .ensures),
+    )
 
 returns : tie.Need-returns
 unfolding inOrder
 returns c =
+    let r = c .before .before in
+    let a = r .before .before .before .before in
+    let m = a .before .before .before .before in
+    let o = m .before .before .before .before in
     penned-then
-    (penned-then (penned-then (c .before .before .before .before .before .before .before .before .before .before .before .before .before .before .pen-objects .ensures) (c .before .before .before .before .before .before .before .before .before .before .pen-memberships .ensures)) (c .before .before .before .before .before .before .pen-appointments .ensures))
-    (c .before .before .pen-rules .ensures)
+    (penned-then (penned-then (o .pen-objects .ensures) (m .pen-memberships .ensures)) (a .pen-appointments .ensures))
+    (r .pen-rules .ensures)
 
 pub pen-card-spec : {M : Type 1} → statement M
 pen-card-spec =

@@ -4,7 +4,8 @@ use native.Mathlib.Omega.{arith}
 use lib.ListN.{getD}
 use Rattle.reach.specs.Words.{has}
 use Rattle.snapshot.specs.Card.{bytesOf, membershipOf, from}
-use Rattle.snapshot.proofs.Penning.{penned-as, Penning, penning-rows, penning-next, penning-end, penning-needed, penning-length, memberships-are}
+use Rattle.snapshot.proofs.Penning.{penned-as, Penning, penning-rows, penning-next}
+use Rattle.snapshot.proofs.Penning.{penning-end, penning-needed, penning-length, memberships-are}
 use Rattle.snapshot.proofs.Anywhere.{nowhere}
 use Rattle.snapshot.proofs.Rowing.{row-is}
 use borrow.Author.Needs.{needs}
@@ -12,7 +13,8 @@ use Rattle.snapshot.proofs.writing.pen_memberships.Statement.{statement
 use Rattle.snapshot.proofs.writing.pen_memberships.Tie as tie
 
 abbrev Inv-loop : tie.InvT-loop
-Inv-loop out₀ members anywhere so-far₀ x₀ out so-far x = Penning 576 64 out₀ so-far₀ (λ y. from 64 0 (λ g. bytesOf (membershipOf (has (getD members g 0) y) y g))) x out so-far
+Inv-loop out₀ members anywhere so-far₀ x₀ out so-far x =
+    Penning 576 64 out₀ so-far₀ (λ y. from 64 0 (λ g. bytesOf (membershipOf (has (getD members g 0) y) y g))) x out so-far
 
 abbrev μ-loop : tie.MeasureT-loop
 μ-loop out₀ members anywhere so-far₀ x₀ out so-far x = 64 - x
@@ -21,18 +23,25 @@ loop-holds : tie.Need-loop-holds Inv-loop μ-loop
 loop-holds c = penning-rows 64 _ _ (c .before .before .before .before .args .p .members)
 
 groups-of-requires : tie.Need-groups-of-requires Inv-loop μ-loop
-groups-of-requires c κs = nowhere _ (search needs) _ _ _ (c .before .before .before .before .stored-anywhere .ensures) (c .has .ensures)
+groups-of-requires c κs =
+    let anywhere = c .before .before .before .before in nowhere _ (search needs) _ _ _ (anywhere .stored-anywhere .ensures) (c .has .ensures)
 
 pen-row-requires : tie.Need-pen-row-requires Inv-loop μ-loop
 pen-row-requires c κs =
-    let few = penning-needed (c .before .before .before .before .before .loop .inv) in omega (arith, few, c .before .before .before .before .before .loop .inv .within, c .before .before .before .before .before .before .before .before .before .before .pre)
+    let t = c .before .before .before .before in
+    let few = penning-needed (t .before .loop .inv) in
+    omega (arith, few, t .before .loop .inv .within, t .before .before .before .before .before .before .pre)
 
 loop-less : tie.Need-loop-less Inv-loop μ-loop
-loop-less c = omega (arith, c .before .before .before .before .before .before .before .loop-test .taken)
+loop-less c = let t = c .before .before .before .before .before .before .before in omega (arith, t .loop-test .taken)
 
 loop-again : tie.Need-loop-again Inv-loop μ-loop
 loop-again c =
-    penning-next (c .before .before .before .before .before .before .before .before .loop .inv) (c .before .before .before .before .before .before .before .loop-test .taken) (penned-as (row-is (c .before .before .before .before .before .before .before .before .before .before .before .before .before .args .p .members) _ (c .before .before .before .before .before .before .before .before .loop .x) (c .before .before .before .before .groups-of .ensures)) (c .before .before .pen-row .ensures))
+    let g = c .before .before .before .before in
+    let t = g .before .before .before in
+    let start = t .before .before .before .before .before .before in
+    penning-next (t .before .loop .inv) (t .loop-test .taken)
+    (penned-as (row-is (start .args .p .members) _ (t .before .loop .x) (g .groups-of .ensures)) (c .before .before .pen-row .ensures))
 
 same-length : tie.Need-same-length Inv-loop μ-loop
 same-length c = penning-length (c .before .loop .inv)

@@ -4,7 +4,8 @@ use native.Mathlib.Omega.{arith}
 use mathlib.Core.Path.{ap}
 use lib.ListN.{getD}
 use Rattle.snapshot.specs.Card.{bytesOf, objectOf}
-use Rattle.snapshot.proofs.Penning.{penned-as, Penning, penning-records, penning-next, penning-end, penning-needed, penning-length, objects-are}
+use Rattle.snapshot.proofs.Penning.{penned-as, Penning, penning-records, penning-next}
+use Rattle.snapshot.proofs.Penning.{penning-end, penning-needed, penning-length, objects-are}
 use borrow.Author.Needs.{needs}
 use Rattle.snapshot.proofs.writing.pen_objects.Statement.{statement}
 use Rattle.snapshot.proofs.writing.pen_objects.Tie as tie
@@ -21,15 +22,19 @@ loop-holds c = penning-records 64 _ _ (λ k. objectOf (getD (c .before .args .t1
 
 pen-entry-requires : tie.Need-pen-entry-requires Inv-loop μ-loop
 pen-entry-requires c κs =
-    let few = penning-needed (c .before .before .before .before .loop .inv) in omega (arith, few, c .before .before .before .before .loop .inv .within, c .before .before .before .before .before .before .pre)
+    let t = c .before .before .before in
+    let few = penning-needed (t .before .loop .inv) in
+    omega (arith, few, t .before .loop .inv .within, t .before .before .before .pre)
 
 loop-less : tie.Need-loop-less Inv-loop μ-loop
-loop-less c = omega (arith, c .before .before .before .before .before .before .loop-test .taken)
+loop-less c = let t = c .before .before .before .before .before .before in omega (arith, t .loop-test .taken)
 
 loop-again : tie.Need-loop-again Inv-loop μ-loop
 loop-again c =
-    penning-next (c .before .before .before .before .before .before .before .loop .inv) (c .before .before .before .before .before .before .loop-test .taken)
-    (penned-as (ap bytesOf (c .before .before .before .before .object-of .ensures)) (c .before .before .pen-entry .ensures))
+    let e = c .before .before .before .before in
+    let t = e .before .before in
+    penning-next (t .before .loop .inv) (t .loop-test .taken)
+    (penned-as (ap bytesOf (e .object-of .ensures)) (c .before .before .pen-entry .ensures))
 
 same-length : tie.Need-same-length Inv-loop μ-loop
 same-length c = penning-length (c .before .loop .inv)

@@ -1,6 +1,7 @@
 -- Group by group, the lowest first: what is left of the set has just the groups from a place on, and those before it are penned.
 use native.Mathlib.Omega.{arith}
-use Rattle.snapshot.proofs.Rowing.{rest-less, lowest-low, Rowing, rowing-start, rowing-needed, rowing-length, rowing-next, rowing-end}
+use Rattle.snapshot.proofs.Rowing.{rest-less, lowest-low, Rowing, rowing-start}
+use Rattle.snapshot.proofs.Rowing.{rowing-needed, rowing-length, rowing-next, rowing-end}
 use borrow.Author.Needs.{needs}
 use Rattle.snapshot.proofs.writing.pen_row.Statement.{statement}
 use Rattle.snapshot.proofs.writing.pen_row.Tie as tie
@@ -15,24 +16,25 @@ loop-holds : tie.Need-loop-holds Inv-loop μ-loop
 loop-holds c = rowing-start _ _ _ _ (search needs)
 
 cast-t11 : tie.Need-cast-t11 Inv-loop μ-loop
-cast-t11 c = search (needs, lowest-low _ (c .before .loop-test .taken) (c .before .before .loop .inv .word))
+cast-t11 c = let t = c .before in search (needs, lowest-low _ (t .loop-test .taken) (t .before .loop .inv .word))
 
 pen-entry-requires : tie.Need-pen-entry-requires Inv-loop μ-loop
 pen-entry-requires c κs =
     let few = rowing-needed _ _ (c .before .before .loop .inv) in omega (arith, few, c .before .before .before .before .pre)
 
 cast-left : tie.Need-cast-left Inv-loop μ-loop
-cast-left c = search (needs, lowest-low _ (c .before .before .before .before .loop-test .taken) (c .before .before .before .before .before .loop .inv .word))
+cast-left c = let t = c .before .before .before .before in search (needs, lowest-low _ (t .loop-test .taken) (t .before .loop .inv .word))
 
 shl-left : tie.Need-shl-left Inv-loop μ-loop
-shl-left c = search (needs, lowest-low _ (c .before .before .before .before .loop-test .taken) (c .before .before .before .before .before .loop .inv .word))
+shl-left c = let t = c .before .before .before .before in search (needs, lowest-low _ (t .loop-test .taken) (t .before .loop .inv .word))
 
 loop-less : tie.Need-loop-less Inv-loop μ-loop
-loop-less c = rest-less _ (c .before .before .before .before .loop-test .taken) (c .before .before .before .before .before .loop .inv .word)
+loop-less c = let t = c .before .before .before .before in rest-less _ (t .loop-test .taken) (t .before .loop .inv .word)
 
 loop-again : tie.Need-loop-again Inv-loop μ-loop
-loop-again c = rowing-next _ _ (c .before .before .before .before .before .loop .inv) (c .before .before .before .before .loop-test .taken)
-    (search (needs, c .before .before .pen-entry .ensures))
+loop-again c =
+    let t = c .before .before .before .before in
+    rowing-next _ _ (t .before .loop .inv) (t .loop-test .taken) (search (needs, c .before .before .pen-entry .ensures))
 
 same-length : tie.Need-same-length Inv-loop μ-loop
 same-length c = rowing-length _ _ (c .before .loop .inv)

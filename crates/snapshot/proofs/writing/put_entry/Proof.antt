@@ -5,16 +5,34 @@ use Rattle.snapshot.proofs.writing.put_entry.Statement.{statement}
 use Rattle.snapshot.proofs.writing.put_entry.Tie as tie
 
 returns : tie.Need-returns
-returns c = rw (c .before .before .before .before .before .before .before .before .before .before .before .before .before .e .given .1) (wrote-then (wrote-then (c .before .before .before .before .before .before .before .before .before .before .put-four .ensures) (c .before .before .before .before .before .before .put-byte .ensures)) (c .before .before .put-byte2 .ensures))
+returns c =
+    let last = c .before .before in
+    let middle = last .before .before .before .before in
+    let first = middle .before .before .before .before in
+    rw (first .before .before .before .e .given .1)
+    (wrote-then (wrote-then (first .put-four .ensures) (middle .put-byte .ensures)) (last .put-byte2 .ensures))
 
 returns-2 : tie.Need-returns-2
-returns-2 c = rw (c .before .before .before .before .before .before .before .before .before .before .before .before .before .e2 .given .1) (wrote-then (wrote-then (c .before .before .before .before .before .before .before .before .before .before .put-four2 .ensures) (c .before .before .before .before .before .before .put-byte3 .ensures)) (c .before .before .put-byte4 .ensures))
+returns-2 c =
+    let last = c .before .before in
+    let middle = last .before .before .before .before in
+    let first = middle .before .before .before .before in
+    rw (first .before .before .before .e2 .given .1)
+    (wrote-then (wrote-then (first .put-four2 .ensures) (middle .put-byte3 .ensures)) (last .put-byte4 .ensures))
 
 returns-3 : tie.Need-returns-3
-returns-3 c = rw (c .before .before .before .before .before .before .before .before .before .before .before .before .before .e3 .given .1) (wrote-then (wrote-then (c .before .before .before .before .before .before .before .before .before .before .put-four3 .ensures) (c .before .before .before .before .before .before .put-byte5 .ensures)) (c .before .before .put-four4 .ensures))
+returns-3 c =
+    let last = c .before .before in
+    let middle = last .before .before .before .before in
+    let first = middle .before .before .before .before in
+    rw (first .before .before .before .e3 .given .1)
+    (wrote-then (wrote-then (first .put-four3 .ensures) (middle .put-byte5 .ensures)) (last .put-four4 .ensures))
 
 returns-4 : tie.Need-returns-4
-returns-4 c = rw (c .before .before .before .before .before .before .before .before .before .e4 .given .1) (wrote-then (c .before .before .before .before .before .before .put-four5 .ensures) (c .before .before .put-four6 .ensures))
+returns-4 c =
+    let last = c .before .before in
+    let first = last .before .before .before .before in
+    rw (first .before .before .before .e4 .given .1) (wrote-then (first .put-four5 .ensures) (last .put-four6 .ensures))
 
 returns-5 : tie.Need-returns-5
 returns-5 c = rw (c .enum-told .given .1) (wrote-none _ _)

@@ -5,7 +5,14 @@ use Rattle.snapshot.proofs.writing.put_four.Statement.{statement}
 use Rattle.snapshot.proofs.writing.put_four.Tie as tie
 
 returns : tie.Need-returns
-returns c = wrote-then (wrote-then (wrote-then (c .before .before .before .before .before .before .before .before .before .before .before .before .before .before .put-byte .ensures) (c .before .before .before .before .before .before .before .before .before .before .put-byte2 .ensures)) (c .before .before .before .before .before .before .put-byte3 .ensures)) (c .before .before .put-byte4 .ensures)
+returns c =
+    let fourth = c .before .before in
+    let third = fourth .before .before .before .before in
+    let second = third .before .before .before .before in
+    let first = second .before .before .before .before in
+    wrote-then
+    (wrote-then (wrote-then (first .put-byte .ensures) (second .put-byte2 .ensures)) (third .put-byte3 .ensures))
+    (fourth .put-byte4 .ensures)
 
 pub put-four-spec : {M : Type 1} → statement M
 put-four-spec =
