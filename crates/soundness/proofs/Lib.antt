@@ -3,3 +3,4 @@ pub mod Fitting
 pub mod Tying
 pub mod Staying
 pub mod Keeping
+pub mod Refuted
