@@ -81,11 +81,15 @@ ownerless = withSorts initial (set (initial .sorts) 63 3)
 
 -- ---- No fault
 
--- [02:2.4] "What an empty place holds is no fault, and a sort or kind above 3 is an empty place.": an object of sort 4, an appointment of kind 4
--- whose numbers name nothing, and a rule that is not in use, with numbers and no operation.
-abbrev pub harmless : Policy
-harmless =
+-- [02:2.4] What an empty place holds is no fault, and a sort or kind above 3 is an empty place: a policy with object x of sort 4, with an
+-- appointment of kind 4 at place i and with a rule that is not in use at place j, both with numbers that may name nothing.
+abbrev pub littered : Policy → ℕ → ℕ → ℕ → Policy
+littered p x i j =
     ruled
-    (appointed (withSorts initial (set (initial .sorts) 63 4)) 31 (record { kind = 4; holder = 64; a = 1; b = 63 }))
-    63
-    (record { used = false; users = 1; targets = 63; operations = 0 })
+    (appointed (withSorts p (set (p .sorts) x 4)) i (record { kind = 4; holder = 9; a = 9; b = 9 }))
+    j
+    (record { used = false; users = 7; targets = 7; operations = 7 })
+
+-- The founding so, at the last place of each table.
+abbrev pub harmless : Policy
+harmless = littered initial 63 31 63
