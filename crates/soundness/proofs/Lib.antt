@@ -4,3 +4,4 @@ pub mod Tying
 pub mod Staying
 pub mod Keeping
 pub mod Refuted
+pub mod Tested
