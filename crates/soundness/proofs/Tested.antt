@@ -81,13 +81,14 @@ module _ (p : Policy) (z : Sized p) where
       at (no n) =
           absurd (bit-none x (ap (λ (r : ℕ). bit r x) (sym (getD-past (p .members) g 0 (omega (arith, z .members)))) ∙ is-one))
 
-  members-tested : wideRow p ≡ false → strayMember p ≡ false → MembersFit (view p)
+  -- Clause by clause.
+  pub members-tested : wideRow p ≡ false → strayMember p ≡ false → MembersFit (view p)
   unfolding strayMember
   members-tested w e x g s =
       let l = stored-inside w x g s in
       decides-and _ _ (decides-in-use p x) (decides-eqb _ 1) .sound (passes _ _ (none-at 64 _ (none-at 64 _ e g (l .1)) x (l .0)) s)
 
-  appointments-tested : misfitAppointment p ≡ false → AppointmentsFit (view p)
+  pub appointments-tested : misfitAppointment p ≡ false → AppointmentsFit (view p)
   unfolding misfitAppointment appointment
   appointments-tested e i s = at (decLt i 32)
     where
@@ -100,7 +101,7 @@ module _ (p : Policy) (z : Sized p) where
           let past : w ≡ noAppointment = getD-past (p .appointments) i noAppointment (omega (arith, z .appointments)) in
           absurd (omega (arith, s, ap (λ (w : Appointment). counted (w .kind)) past, counted-known 0 (omega arith)))
 
-  rules-tested : misfitRule p ≡ false → RulesFit (view p)
+  pub rules-tested : misfitRule p ≡ false → RulesFit (view p)
   unfolding misfitRule rule
   rules-tested e i s = at (decLt i 64)
     where
@@ -113,7 +114,7 @@ module _ (p : Policy) (z : Sized p) where
           let past : r ≡ noRule = getD-past (p .rules) i noRule (omega (arith, z .rules)) in
           absurd (false≢true (ap (λ (r : AccessRule). r .used) (sym past) ∙ s))
 
-  -- No clause is broken.
+  -- All of them.
   pub sound-tested : wideRow p ≡ false → broken p ≡ unbroken → Sound (view p)
   sound-tested w e =
       record {

@@ -45,10 +45,11 @@ abbrev pub broken : Policy → Broken
 broken p =
     record { memberships = strayMember p; appointments = misfitAppointment p; rules = misfitRule p; owners = orphaned p }
 
+-- None of them.
 abbrev pub unbroken : Broken
 unbroken = record { memberships = false; appointments = false; rules = false; owners = false }
 
--- Every row of the members is a word, as with every policy that the program holds.
+-- Some row of the members is no word: with no policy that the program holds.
 unfoldable pub wideRow : Policy → Bool
 wideRow p = some 64 (λ g. leb (2 ^ 64) (getD (p .members) g 0))
 
