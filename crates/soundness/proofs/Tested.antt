@@ -36,6 +36,11 @@ passes true true e h = refl
 passes true false e h = absurd (true≢false e)
 passes false b e h = absurd (false≢true h)
 
+-- One of two tests that do not both pass.
+other : (a b : Bool) → a && b ≡ false → a ≡ true → b ≡ false
+other true b e h = e
+other false b e h = absurd (false≢true h)
+
 both : {a b : Bool} → a && b ≡ true → (a ≡ true) × (b ≡ true)
 both e = decides-and _ _ (decides-true _) (decides-true _) .sound e
 
@@ -66,27 +71,32 @@ module _ (p : Policy) where
       }
 
 module _ (p : Policy) (z : Sized p) where
-  -- What is stored is stored on the table.
-  stored-inside : wideRow p ≡ false → (x g : ℕ) → view p .stored x g ≡ true → (x < 64) × (g < 64)
-  unfolding wideRow stored
-  stored-inside w x g s = at (decLt g 64)
-    where
-      is-one : bit (getD (p .members) g 0) x ≡ 1
-      is-one = has-decides (getD (p .members) g 0) x .sound s
+  -- What is stored is stored on the table, in a row that is not empty.
+  row-has : (x g : ℕ) → view p .stored x g ≡ true → bit (getD (p .members) g 0) x ≡ 1
+  unfolding stored
+  row-has x g s = has-decides (getD (p .members) g 0) x .sound s
 
-      at : Dec (g < 64) → (x < 64) × (g < 64)
-      at (yes l) =
-          let word : getD (p .members) g 0 < 2 ^ 64 = leb-false _ _ (none-at 64 _ w g l) in
-          (set-below (set-bits (getD (p .members) g 0) word) x is-one, l)
-      at (no n) =
-          absurd (bit-none x (ap (λ (r : ℕ). bit r x) (sym (getD-past (p .members) g 0 (omega (arith, z .members)))) ∙ is-one))
+  row-some : (x g : ℕ) → view p .stored x g ≡ true → getD (p .members) g 0 ≡ 0 → ⊥
+  row-some x g s e = bit-none x (ap (λ (r : ℕ). bit r x) (sym e) ∙ row-has x g s)
+
+  group-inside : (x g : ℕ) → view p .stored x g ≡ true → g < 64
+  group-inside x g s = at (decLt g 64)
+    where
+      at : Dec (g < 64) → g < 64
+      at (yes l) = l
+      at (no n) = absurd (row-some x g s (getD-past (p .members) g 0 (omega (arith, z .members))))
+
+  member-inside : wideRow p ≡ false → (x g : ℕ) → view p .stored x g ≡ true → x < 64
+  unfolding wideRow
+  member-inside w x g s =
+      set-below (set-bits (getD (p .members) g 0) (leb-false _ _ (none-at 64 _ w g (group-inside x g s)))) x (row-has x g s)
 
   -- Clause by clause.
   pub members-tested : wideRow p ≡ false → strayMember p ≡ false → MembersFit (view p)
   unfolding strayMember
   members-tested w e x g s =
-      let l = stored-inside w x g s in
-      decides-and _ _ (decides-in-use p x) (decides-eqb _ 1) .sound (passes _ _ (none-at 64 _ (none-at 64 _ e g (l .1)) x (l .0)) s)
+      let row = other _ _ (none-at 64 _ e g (group-inside x g s)) (ap not (ne-eqb (getD (p .members) g 0) 0 (row-some x g s))) in
+      decides-and _ _ (decides-in-use p x) (decides-eqb _ 1) .sound (passes _ _ (none-at 64 _ row x (member-inside w x g s)) s)
 
   pub appointments-tested : misfitAppointment p ≡ false → AppointmentsFit (view p)
   unfolding misfitAppointment appointment

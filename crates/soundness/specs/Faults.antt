@@ -24,9 +24,9 @@ appointable p w =
 abbrev pub grantable : Policy → AccessRule → Bool
 grantable p r = isGroup p (r .users) && isGroup p (r .targets) && not (eqb (r .operations) 0)
 
--- Some membership, some appointment that stands, some rule in use does not fit.
+-- Some membership, some appointment that stands, some rule in use does not fit. A row of no members is passed over.
 unfoldable pub strayMember : Policy → Bool
-strayMember p = some 64 (λ g. some 64 (λ x. stored p x g && not (inUse p x && isGroup p g)))
+strayMember p = some 64 (λ g. not (eqb (getD (p .members) g 0) 0) && some 64 (λ x. stored p x g && not (inUse p x && isGroup p g)))
 
 unfoldable pub misfitAppointment : Policy → Bool
 misfitAppointment p = some 32 (λ i. standing (appointment p i) && not (appointable p (appointment p i)))
