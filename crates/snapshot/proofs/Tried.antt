@@ -1,24 +1,22 @@
 -- The file of a policy on concrete policies: which bytes stand on the card, which policies share them, and which codes the answers have.
 -- By computation; what an empty place holds is on no card, since a policy with it is the same in every place in use.
-use mathlib.Core.Path.{_≡_, refl, sym, ap, _∙_, subst}
-use mathlib.Core.Bool.{true, false, false≢true, true≢false}
+use mathlib.Core.Path.{_≡_, refl, sym, ap, _∙_}
+use mathlib.Core.Bool.{true, false, false≢true}
 use mathlib.Core.Logic.{_⊎_, ⊎-elim}
-use mathlib.Core.List.{List}
 use Prim.Native.Nat.{ℕ, _<_}
 use native.Mathlib.Nat.{lt-irrefl}
 use native.Mathlib.Decide.{ℕ-discrete}
 use native.Mathlib.Omega.{arith}
 use lib.Dec.{ltb}
-use lib.ListN.{length, getD, set}
+use lib.ListN.{getD, set}
 use lib.Seq.{getD-set-same, getD-set-other}
 use borrow.Author.Tests.{lt-ltb}
 use Rattle.frame.specs.Reading.{recordsFrom, tornFrom}
 use Rattle.reach.specs.declared.Policy.{Policy}
 use Rattle.reach.specs.declared.Appointment.{Appointment}
 use Rattle.reach.specs.declared.AccessRule.{AccessRule}
-use Rattle.reach.specs.Words.{bit, has}
 use Rattle.reach.specs.Tests.{_⇒_∥_}
-use Rattle.reach.specs.Tables.{Sized, view, counted, sort, stored, appointment, standing, rule, noAppointment, noRule, initial}
+use Rattle.reach.specs.Tables.{Sized, view, counted, sort, stored, appointment, rule, noAppointment, noRule, initial}
 use Rattle.reach.specs.Successors.{appointed, ruled}
 use Rattle.reach.proofs.Sizes.{sized-initial}
 use Rattle.rules.specs.Allowing.{Standing, Vacant}
@@ -26,6 +24,8 @@ use Rattle.text.specs.Text.{Bytes}
 use Rattle.soundness.specs.Soundness.{Sound}
 use Rattle.soundness.specs.Faults.{littered, harmless}
 use Rattle.soundness.proofs.Keeping.{founding-sound}
+use Rattle.soundness.proofs.Tested.{sound-tested}
+use Rattle.soundness.proofs.Refuted.{computedFaults}
 use Rattle.snapshot.specs.declared.Status.the-variants.{Done, Damaged, Short}
 use Rattle.snapshot.specs.declared.Loaded.{Loaded}
 use Rattle.snapshot.specs.Card.{fileOf, recordOf, objectAt, membershipAt, appointedAt, grantedAt, from, inOrder, Same}
@@ -37,13 +37,12 @@ use Rattle.snapshot.proofs.Theorems.{same-of-files, files-of-same, Retu
 
 -- The file with every definition open: what is to compute opens this one.
 unfoldable computed : Policy → Bytes
-unfolding bit has counted sort stored appointment standing rule initial appointed ruled objectAt membershipAt appointedAt grantedAt from
-    inOrder clubCleared
+unfolding computedFaults objectAt membershipAt appointedAt grantedAt from inOrder clubCleared
 computed p = fileOf (view p)
 
 -- ---- Two cards, byte by byte
 
--- [02:2.2] [02:2.3] The founding's.
+-- [02:2.2] [02:2.3] That of the founding.
 pub founding-card : fileOf (view initial) ≡ foundingCard
 unfolding computed
 founding-card = refl
@@ -55,6 +54,7 @@ club-card = refl
 
 -- ---- Read as requests are read
 
+-- The records that are to be found.
 founding-records : inOrder recordOf (view initial) ≡ foundingRecords
 unfolding computed
 founding-records = refl
@@ -71,6 +71,7 @@ founding-whole = ap (λ (b : Bytes). tornFrom b 0) (sym founding-card) ∙ frame
 
 module _ (p : Policy) (z : Sized p) (x i j : ℕ) (in-x : x < 64) (in-i : i < 32) (in-j : j < 64) (no-object : view p .sort x ≡ 0)
     (vacant : Vacant (view p .appointment i)) (unused : view p .rule j .used ≡ false) where
+  -- Sort 4 counts as empty.
   sorts-littered : (y : ℕ) → view p .sort y ≡ view (littered p x i j) .sort y
   unfolding sort counted appointed ruled
   sorts-littered y = at (ℕ-discrete y x)
@@ -126,6 +127,7 @@ module _ (p : Policy) (z : Sized p) (x i j : ℕ) (in-x : x < 64) (in-i : i < 32
         rules = rules-littered;
       }
 
+-- The tables of the club have their sizes.
 sized-cleared : Sized clubCleared
 unfolding computed
 sized-cleared = record { sorts = refl; members = refl; appointments = refl; rules = refl }
@@ -139,11 +141,7 @@ club-same : Same (view clubCleared) (view club)
 unfolding computed
 club-same = same-littered clubCleared sized-cleared 5 6 10 (omega arith) (omega arith) (omega arith) refl refl refl
 
--- [02:2.4] What an empty place holds is no fault.
-pub harmless-sound : Sound (view harmless)
-harmless-sound = sound-same (view initial) (view harmless) founding-same founding-sound
-
--- [02:2.6] Nor is it on the card: with it or without, the file is the same.
+-- [02:2.6] What an empty place holds is not on the card: with it or without, the file is the same.
 pub harmless-card : fileOf (view harmless) ≡ foundingCard
 harmless-card = sym (files-of-same initial harmless founding-same) ∙ founding-card
 
@@ -154,13 +152,30 @@ cleared-card = files-of-same clubCleared club club-same ∙ club-card
 pub founding-card-only : (p : Policy) → Sized p → Sound (view p) → fileOf (view p) ≡ foundingCard → Same (view initial) (view p)
 founding-card-only p z s e = same-of-files initial p sized-initial z founding-sound s (founding-card ∙ sym e)
 
-founding-file : FileOf initial foundingCard
-founding-file = record { sized = sized-initial; sound = founding-sound; file = founding-card }
+-- ---- Read back
 
--- [02:2.7] Whatever reader of these promises reads the founding's card takes it, and gives the founding back, as far as it counts.
+-- The club is a policy that a program can hold, and sound, whatever its empty places hold.
+sized-club : Sized club
+unfolding computed
+sized-club = record { sorts = refl; members = refl; appointments = refl; rules = refl }
+
+cleared-sound : Sound (view clubCleared)
+unfolding computed
+cleared-sound = sound-tested clubCleared sized-cleared refl refl
+
+pub club-sound : Sound (view club)
+club-sound = sound-same (view clubCleared) (view club) club-same cleared-sound
+
+-- [02:2.7] "A sound sheet, written and read, comes back the same in those": whatever reader of these promises reads a policy's file takes it.
+read-back : {p kept : Policy} {card : Bytes} {r : Loaded} → FileOf p card → Reads kept card r → Returned p r
+read-back {p} f (Reads.taken c g q same) = record { done = c; same = same p f }
+read-back {p} f (Reads.damaged none is) = absurd (none p f)
+
 pub founding-read : {kept : Policy} {r : Loaded} → Reads kept foundingCard r → Returned initial r
-founding-read (Reads.taken c f q same) = record { done = c; same = same initial founding-file }
-founding-read (Reads.damaged none is) = absurd (none initial founding-file)
+founding-read = read-back (record { sized = sized-initial; sound = founding-sound; file = founding-card })
+
+pub club-read : {kept : Policy} {r : Loaded} → Reads kept clubCard r → Returned club r
+club-read = read-back (record { sized = sized-club; sound = club-sound; file = club-card })
 
 -- ---- Codes
 

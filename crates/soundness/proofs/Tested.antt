@@ -2,7 +2,7 @@
 -- A test that fails fails at every place of its table, and past the tables nothing is stored, stands or is in use.
 use mathlib.Core.Path.{_≡_, refl, sym, ap, _∙_}
 use mathlib.Core.Bool.{Bool, true, false, not, _&&_, true≢false, false≢true}
-use Prim.Native.Nat.{ℕ, _^_, _<_}
+use Prim.Native.Nat.{ℕ, _<_}
 use native.Mathlib.Decide.{decLt}
 use native.Mathlib.Omega.{arith}
 use lib.ListN.{getD}
@@ -24,7 +24,7 @@ use Rattle.reach.proofs.Deciding.{standing-decides}
 use Rattle.rules.specs.Allowing.{Appointable}
 use Rattle.rules.proofs.Giving.{orphaned-passes}
 use Rattle.soundness.specs.Soundness.{MembersFit, AppointmentsFit, Grantable, RulesFit, Sound}
-use Rattle.soundness.specs.Faults.{appointable, grantable, strayMember, misfitAppointment, misfitRule, Broken, broken, unbroken, wideRow}
+use Rattle.soundness.specs.Tested.{appointable, grantable, strayMember, misfitAppointment, misfitRule, wideRow, Broken, broken, unbroken}
 
 -- A test that fails, fails at every number below its bound.
 none-at : (n : ℕ) (t : ℕ → Bool) → some n t ≡ false → (i : ℕ) → i < n → t i ≡ false
@@ -41,6 +41,7 @@ other : (a b : Bool) → a && b ≡ false → a ≡ true → b ≡ false
 other true b e h = e
 other false b e h = absurd (false≢true h)
 
+-- Two that both pass.
 both : {a b : Bool} → a && b ≡ true → (a ≡ true) × (b ≡ true)
 both e = decides-and _ _ (decides-true _) (decides-true _) .sound e
 
