@@ -3,6 +3,7 @@
 use mathlib.Core.Path.{_≡_, refl, sym, ap, _∙_}
 use mathlib.Core.Bool.{true, false, false≢true}
 use mathlib.Core.Logic.{_⊎_, ⊎-elim}
+use mathlib.Core.List.{[], _∷_, map}
 use Prim.Native.Nat.{ℕ, _<_}
 use native.Mathlib.Nat.{lt-irrefl}
 use native.Mathlib.Decide.{ℕ-discrete}
@@ -10,7 +11,7 @@ use native.Mathlib.Omega.{arith}
 use lib.Dec.{ltb}
 use lib.ListN.{getD, set}
 use lib.Seq.{getD-set-same, getD-set-other}
-use borrow.Author.Tests.{lt-ltb}
+use borrow.Author.Tests.{lt-ltb, eqb-false}
 use Rattle.frame.specs.Reading.{recordsFrom, tornFrom}
 use Rattle.reach.specs.declared.Policy.{Policy}
 use Rattle.reach.specs.declared.Appointment.{Appointment}
@@ -28,9 +29,9 @@ use Rattle.soundness.proofs.Tested.{sound-tested}
 use Rattle.soundness.proofs.Refuted.{computedFaults}
 use Rattle.snapshot.specs.declared.Status.the-variants.{Done, Damaged, Short}
 use Rattle.snapshot.specs.declared.Loaded.{Loaded}
-use Rattle.snapshot.specs.Card.{fileOf, recordOf, objectAt, membershipAt, appointedAt, grantedAt, from, inOrder, Same}
+use Rattle.snapshot.specs.Card.{fileOf, recordOf, known, objectAt, membershipAt, appointedAt, grantedAt, from, inOrder, Same, Zeroed}
 use Rattle.snapshot.specs.Answers.{codeOf, FileOf, Reads}
-use Rattle.snapshot.specs.Trials.{foundingCard, foundingRecords, club, clubCleared, clubCard}
+use Rattle.snapshot.specs.Trials.{foundingCard, foundingRecords, club, clubCleared, clubCard, sortLeft, appointmentLeft, ruleLeft}
 use Rattle.snapshot.proofs.Framing.{framed}
 use Rattle.snapshot.proofs.SoundAlike.{sound-same}
 use Rattle.snapshot.proofs.Theorems.{same-of-files, files-of-same, Returned}
@@ -151,6 +152,24 @@ cleared-card = files-of-same clubCleared club club-same ∙ club-card
 -- [02:2.6] A sound policy whose file is the founding's agrees with the founding in every place in use and every membership.
 pub founding-card-only : (p : Policy) → Sized p → Sound (view p) → fileOf (view p) ≡ foundingCard → Same (view initial) (view p)
 founding-card-only p z s e = same-of-files initial p sized-initial z founding-sound s (founding-card ∙ sym e)
+
+-- Sorts and kinds that count, and those that do not.
+pub known-tried : map known (0 ∷ 1 ∷ 2 ∷ 3 ∷ 4 ∷ 255 ∷ []) ≡ false ∷ true ∷ true ∷ true ∷ false ∷ false ∷ []
+unfolding computed
+known-tried = refl
+
+-- [02:2.5] ".. a sheet whose empty places hold zeros": a reader may not give a policy that has something else in one, of any table.
+pub sort-left-unzeroed : Zeroed sortLeft → ⊥
+unfolding computed
+sort-left-unzeroed z = eqb-false 4 0 refl (z .sorts 63 refl)
+
+pub appointment-left-unzeroed : Zeroed appointmentLeft → ⊥
+unfolding computed
+appointment-left-unzeroed z = eqb-false 9 0 refl (ap (λ (w : Appointment). w .holder) (z .appointments 31 refl))
+
+pub rule-left-unzeroed : Zeroed ruleLeft → ⊥
+unfolding computed
+rule-left-unzeroed z = eqb-false 7 0 refl (ap (λ (r : AccessRule). r .users) (z .rules 63 refl))
 
 -- ---- Read back
 

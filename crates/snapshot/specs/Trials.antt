@@ -1,9 +1,10 @@
 -- Two policies and the bytes of their files, written out by hand: what the definitions of Card are tried on.
-use mathlib.Core.Bool.{true}
+use mathlib.Core.Bool.{true, false}
 use mathlib.Core.List.{List, [], _∷_}
 use lib.ListN.{set, replicate}
 use Rattle.reach.specs.declared.Policy.{Policy}
-use Rattle.reach.specs.Tables.{noAppointment, noRule}
+use Rattle.reach.specs.Tables.{noAppointment, noRule, initial}
+use Rattle.reach.specs.Successors.{withSorts, appointed, ruled}
 use Rattle.text.specs.Text.{Bytes}
 use Rattle.soundness.specs.Faults.{littered}
 
@@ -62,3 +63,13 @@ clubCard =
     9 ∷ 0 ∷ 18 ∷ 0 ∷ 5 ∷ 3 ∷ 1 ∷ 2 ∷ 3 ∷
     8 ∷ 0 ∷ 19 ∷ 0 ∷ 9 ∷ 2 ∷ 3 ∷ 129 ∷
     []
+
+-- The founding with an empty place that does not hold zeros: an object of sort 4, an appointment of kind 4, a rule that is not in use.
+abbrev pub sortLeft : Policy
+sortLeft = withSorts initial (set (initial .sorts) 63 4)
+
+abbrev pub appointmentLeft : Policy
+appointmentLeft = appointed initial 31 (record { kind = 4; holder = 9; a = 9; b = 9 })
+
+abbrev pub ruleLeft : Policy
+ruleLeft = ruled initial 63 (record { used = false; users = 7; targets = 7; operations = 7 })
