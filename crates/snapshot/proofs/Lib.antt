@@ -16,3 +16,4 @@ pub mod Penning
 pub mod Anywhere
 pub mod Rowing
 pub mod Stepping
+pub mod Tried

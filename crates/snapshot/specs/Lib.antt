@@ -3,3 +3,4 @@ pub mod Card
 pub mod Answers
 pub mod Writing
 pub mod Loading
+pub mod Trials

@@ -3,3 +3,5 @@ pub mod Fitting
 pub mod Tying
 pub mod Staying
 pub mod Keeping
+pub mod Tested
+pub mod Refuted
