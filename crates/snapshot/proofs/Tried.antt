@@ -30,11 +30,11 @@ use Rattle.soundness.proofs.Refuted.{computedFaults}
 use Rattle.snapshot.specs.declared.Status.the-variants.{Done, Damaged, Short}
 use Rattle.snapshot.specs.declared.Loaded.{Loaded}
 use Rattle.snapshot.specs.Card.{fileOf, recordOf, known, objectAt, membershipAt, appointedAt, grantedAt, from, inOrder, Same, Zeroed}
-use Rattle.snapshot.specs.Answers.{codeOf, FileOf, Reads}
+use Rattle.snapshot.specs.Answers.{codeOf, FileOf, Reads, Returned}
 use Rattle.snapshot.specs.Trials.{foundingCard, foundingRecords, club, clubCleared, clubCard, sortLeft, appointmentLeft, ruleLeft}
 use Rattle.snapshot.proofs.Framing.{framed}
 use Rattle.snapshot.proofs.SoundAlike.{sound-same}
-use Rattle.snapshot.proofs.Theorems.{same-of-files, files-of-same, Returned}
+use Rattle.snapshot.proofs.Theorems.{same-of-files, files-of-same}
 
 -- The file with every definition open: what is to compute opens this one.
 unfoldable computed : Policy → Bytes
