@@ -4,7 +4,7 @@ use mathlib.Core.Path.{_≡_, refl, sym, ap, _∙_}
 use mathlib.Core.Bool.{true, false, _&&_, false≢true}
 use mathlib.Core.Logic.{_≢_}
 use mathlib.Core.List.{List}
-use Prim.Native.Nat.{ℕ, zero, suc, _+_, _-_, _≤_, _<_}
+use Prim.Native.Nat.{ℕ, zero, suc, _+_, _-_, _%_, _≤_, _<_}
 use native.Mathlib.Nat.{le-refl}
 use native.Mathlib.Numerals.{add-one}
 use native.Mathlib.Omega.{arith}
@@ -143,7 +143,7 @@ pub store-tabled : (sorts members : List ℕ) (appointments : List Appointment) 
     ≡ store (tabled sorts members appointments rules) e
 unfolding put appointed ruled
 store-tabled sorts members appointments rules (Object x s) v = rw (set-getD appointments 0 noAppointment, set-getD rules 0 noRule)
-store-tabled sorts members appointments rules (Membership x g) v = rw (v, set-getD appointments 0 noAppointment, set-getD rules 0 noRule)
+store-tabled sorts members appointments rules (Membership x g) v = rw (v, set-getD appointments (g % 32) noAppointment, set-getD rules g noRule)
 store-tabled sorts members appointments rules (Appointed i k h a b) v = rw (set-getD rules 0 noRule)
 store-tabled sorts members appointments rules (Granted i u t o) v = rw (set-getD appointments 0 noAppointment)
 store-tabled sorts members appointments rules Empty v = absurd (false≢true v)

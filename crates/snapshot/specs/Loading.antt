@@ -114,10 +114,11 @@ membersWith l (Appointed i k h a b) = l
 membersWith l (Granted i u t o) = l
 membersWith l Empty = l
 
--- An appointment and a rule, by the place where it is stored and what stands there after; a record of another kind leaves what stood at 0.
+-- An appointment and a rule, by the place where it is stored and what stands there after. A record of another kind leaves what stands at a
+-- place; that of a membership is another one with each record, so that no store waits for the one before it.
 abbrev pub appointmentPlace : Entry → ℕ
 appointmentPlace (Object x s) = 0
-appointmentPlace (Membership x g) = 0
+appointmentPlace (Membership x g) = g % 32
 appointmentPlace (Appointed i k h a b) = i
 appointmentPlace (Granted i u t o) = 0
 appointmentPlace Empty = 0
@@ -131,7 +132,7 @@ appointmentAfter w Empty = w
 
 abbrev pub rulePlace : Entry → ℕ
 rulePlace (Object x s) = 0
-rulePlace (Membership x g) = 0
+rulePlace (Membership x g) = g
 rulePlace (Appointed i k h a b) = 0
 rulePlace (Granted i u t o) = i
 rulePlace Empty = 0

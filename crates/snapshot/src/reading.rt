@@ -68,7 +68,7 @@ fn store_low(sorts: &mut [u8; 64], members: &mut [u64; 64], e: Entry)
     }
 }
 
-// Where an appointment is stored; 0 for a record of another kind.
+// Where an appointment is stored; for a record of another kind a place that stays as it is.
 fn appointment_place(e: Entry) -> usize
     requires { ⌜ valid e ≡ true ⌝ }
     ensures { λ r. ⌜ r ≡ appointmentPlace e ⌝ }
@@ -76,7 +76,7 @@ fn appointment_place(e: Entry) -> usize
 {
     match e {
         Entry::Object(_, _) => 0,
-        Entry::Membership(_, _) => 0,
+        Entry::Membership(_, g) => (g % 32) as usize,
         Entry::Appointed(i, _, _, _, _) => i as usize,
         Entry::Granted(_, _, _, _) => 0,
         Entry::Empty => 0,
@@ -101,7 +101,7 @@ fn appointment_after(w: Appointment, e: Entry) -> Appointment
     }
 }
 
-// Where a rule is stored; 0 for a record of another kind.
+// Where a rule is stored; for a record of another kind a place that stays as it is.
 fn rule_place(e: Entry) -> usize
     requires { ⌜ valid e ≡ true ⌝ }
     ensures { λ r. ⌜ r ≡ rulePlace e ⌝ }
@@ -109,7 +109,7 @@ fn rule_place(e: Entry) -> usize
 {
     match e {
         Entry::Object(_, _) => 0,
-        Entry::Membership(_, _) => 0,
+        Entry::Membership(_, g) => g as usize,
         Entry::Appointed(_, _, _, _, _) => 0,
         Entry::Granted(i, _, _, _) => i as usize,
         Entry::Empty => 0,
