@@ -18,16 +18,19 @@ extern "C" {
 /* The picture of a policy, 960 bytes:
  *
  *     0 ..  63   64 sorts of a byte: 0 empty, 1 group, 2 member, 3 gear
- *    64 .. 575   64 rows of 8 bytes, the lowest first: row g is the set of what is directly in g, bit x object x
+ *    64 .. 575   64 rows of 8 bytes, the lowest first: row x is the set of the groups that x is directly in, bit g group g
  *   576 .. 703   32 appointments (warrants) of 4 bytes: kind (0 empty, 1 owner, 2 manager, 3 administrator), holder, A, B
  *   704 .. 959   64 rules of 4 bytes: mark (1 in use, else empty), U, T, operations
  *
  * A mark that is neither 0 nor 1 is an empty place, and comes back as 0, even with a refusal; all other bytes of a picture are kept as
  * they are, but for what an accepted record or a card that is read changes.
  *
- * The founding's picture has 1 at byte 0, 2 at byte 1, 2 at byte 64, 1 at bytes 576 and 577, and 0 elsewhere.
+ * The founding's picture has 1 at byte 0, 2 at byte 1, 1 at byte 72, 1 at bytes 576 and 577, and 0 elsewhere.
+ *
+ * This is version 2 of the picture. In version 1 row g was the set of what is directly in g, bit x object x; all else was the same.
  */
 #define SELKAUM_POLICY_BYTES 960
+#define SELKAUM_PICTURE_VERSION 2
 
 /* An answer: the picture of the policy after, the code at 960 (0 done, else the number of the refusal), the cited rule at 961 (255 none). */
 #define SELKAUM_ANSWER_BYTES 962
@@ -70,6 +73,17 @@ size_t selkaum_run(const uint8_t *bytes, size_t bytes_len,
 size_t selkaum_gain(const uint8_t *policy, size_t policy_len,
                     const uint8_t *record, size_t record_len,
                     uint8_t *gain, size_t gain_len);
+
+/* Tells all that object `x` is under with the policy: itself, the groups that it is directly in, those that these are directly in, and so
+ * on. Writes them as a set over the first 8 bytes of `out`, the lowest first, bit g for object g; those behind them stay as they are. The
+ * set of an empty object, and of a number above 63, is empty. Returns 8. If `policy_len` is not 960, or `out_len` is less than 8, it writes
+ * nothing and returns 0.
+ */
+#define SELKAUM_SET_BYTES 8
+
+size_t selkaum_above(const uint8_t *policy, size_t policy_len,
+                     uint8_t x,
+                     uint8_t *out, size_t out_len);
 
 /* A policy on a card. The file of a policy is records, framed as requests are: a two-byte length of the whole record and a two-byte kind,
  * little-endian, then a byte each:

@@ -72,7 +72,7 @@ def script():
 
 
 def report():
-    """The lines: who is under whom, then the four holdings, then the orphans."""
+    """The lines: who is under whom, by group and by object, then the four holdings, then the orphans."""
     used = {x for x in range(64) if sorts.get(x) in (GROUP, MEMBER, GEAR)}
     under = {(x, x) for x in used}
     under |= {(x, g) for x, g in inside if x in used and g in used and sorts[g] == GROUP}
@@ -96,6 +96,8 @@ def report():
 
     for g in [*range(13), 63, 64]:
         yield line(f"under {g}", sorted(x for x, h in under if h == g))
+    for x in [*range(13), 63, 64]:
+        yield line(f"above {x}", sorted(g for y, g in under if y == x))
     for u in range(13):
         yield line(f"owns {u}", sorted(x for v, x in owns if v == u))
         yield line(f"manages {u}", sorted(x for v, x in manages if v == u))

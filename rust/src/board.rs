@@ -10,6 +10,9 @@ pub const ANSWER: usize = PICTURE + 2;
 /// Length of an answer to a card: the picture of the sheet after, and the code.
 pub const CARD_ANSWER: usize = PICTURE + 1;
 
+/// Length of a set of objects: a bit for each, the lowest first.
+pub const SET: usize = 8;
+
 extern "C" {
     fn selkaum_judge(
         policy: *const u8,
@@ -42,6 +45,14 @@ extern "C" {
         record_len: usize,
         gain: *mut u8,
         gain_len: usize,
+    ) -> usize;
+
+    fn selkaum_above(
+        policy: *const u8,
+        policy_len: usize,
+        x: u8,
+        out: *mut u8,
+        out_len: usize,
     ) -> usize;
 
     fn selkaum_write_card(
@@ -205,6 +216,29 @@ pub fn gain(picture: &[u8; PICTURE], record: &[u8]) -> Option<(u8, u8)> {
             None
         }
     }
+}
+
+/// `selkaum_above` as it is: writes the set of all that an object is under over the start of
+/// `out`, if the lengths fit, and returns the number of bytes written.
+pub fn above_into(policy: &[u8], x: u8, out: &mut [u8]) -> usize {
+    // SAFETY: the slices' bytes are there, and none is lent twice, for `out` is lent alone.
+    unsafe {
+        selkaum_above(
+            policy.as_ptr(),
+            policy.len(),
+            x,
+            out.as_mut_ptr(),
+            out.len(),
+        )
+    }
+}
+
+/// The set of all that an object is under on the sheet of a picture: bit g is object g.
+pub fn above(picture: &[u8; PICTURE], x: u8) -> u64 {
+    let mut set = [0; SET];
+    let written = above_into(picture, x, &mut set);
+    assert_eq!(written, SET, "the board writes a whole set");
+    u64::from_le_bytes(set)
 }
 
 /// `selkaum_write_card` as it is: writes the file over the start of `card` and the code over the

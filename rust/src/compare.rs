@@ -56,6 +56,26 @@ pub fn single(picture: &[u8; PICTURE], record: &[u8]) -> Result<board::Answer, S
     Err(format!("on the sheet {sheet}\n{record}{}", answers.line()))
 }
 
+/// What all four say that an object is under on the sheet of a picture, or what shows that they
+/// differ.
+pub fn above(picture: &[u8; PICTURE], x: u8) -> Result<u64, String> {
+    let sheet = Sheet::from_picture(picture);
+    let sets = [
+        board::above(picture, x),
+        plain::above(&sheet, x),
+        sets::above(&sheet, x),
+        fast::above(&sheet, x),
+    ];
+    if all_same(&sets) {
+        return Ok(sets[0]);
+    }
+    let mut message = format!("on the sheet {}\nwhat {x} is under:", hex(picture));
+    for (name, set) in NAMES.iter().zip(sets) {
+        write!(message, "   {name} {set:#018x}").expect("a String takes all text");
+    }
+    Err(message)
+}
+
 /// Runs a list from the founding, each record on the picture that the board returned for the
 /// one before, and hands each record and the answer of all four to `see`.
 pub fn each_record(

@@ -11,7 +11,7 @@ mod view;
 
 use crate::sheet::*;
 use crate::wide;
-use crate::words::{at, bit, each, has, is_kind, is_sort, refuse_if};
+use crate::words::{all_if, at, bit, each, has, is_kind, is_sort, refuse_if};
 use view::{Join, View};
 
 /// An accepted request's change of the sheet, and for USE the rule cited.
@@ -43,6 +43,14 @@ pub fn judge_in_place(sheet: &mut Sheet, record: &[u8]) -> (u8, u8) {
         }
         Err(code) => (code, NO_RULE),
     }
+}
+
+/// All that an object is under. What isn't in use is under nothing.
+pub fn above(sheet: &Sheet, x: u8) -> u64 {
+    let [groups, members, gear] = wide::sorts(&sheet.sorts);
+    let start = bit(x) & all_if(has(groups | members | gear, x));
+    let [over] = wide::over(&sheet.members, groups, [start]);
+    over
 }
 
 fn apply(sheet: &mut Sheet, change: Change) {

@@ -1,6 +1,6 @@
-//! The judge in the plainest way: document 01, and Job 1 of document 02, sentence by sentence,
-//! with loops over objects, members and operations, and holdings compared before and after.
-//! Speed is no concern here.
+//! The judge in the plainest way: document 01, and Jobs 1 and 3 of document 02, sentence by
+//! sentence, with loops over objects, members and operations, and holdings compared before and
+//! after. Speed is no concern here.
 
 pub(crate) mod holdings;
 mod record;
@@ -54,6 +54,15 @@ pub fn permit_refused(sheet: &Sheet, record: &[u8]) -> Option<(u8, u8)> {
     let before = Holdings::of(*sheet);
     let after = Holdings::of(successor(*sheet, request));
     permit_gained(&before, &after, sender)
+}
+
+/// Document 02, Job 3: "the set of all that an object is under, itself too, each of these and no
+/// other; for an empty object or a number past the table, the empty set". Bit g is object g.
+pub fn above(sheet: &Sheet, x: u8) -> u64 {
+    let under = holdings::all_over(sheet, x);
+    objects()
+        .filter(|&g| under[g as usize])
+        .fold(0, |set, g| set | 1 << g)
 }
 
 /// The twelve checks in order: the sheet after and the cited rule, or the first refusal.

@@ -28,6 +28,14 @@ pub fn judge_in_place(sheet: &mut Sheet, record: &[u8]) -> (u8, u8) {
     }
 }
 
+/// All that an object is under: the numbers in whose rows of the closure it is. An empty object
+/// and a number outside the table are in none.
+pub fn above(sheet: &Sheet, x: u8) -> u64 {
+    let reach = Holdings::on(sheet).reach;
+    let over = |&g: &u8| has(reach.under(g), x);
+    (0..64).filter(over).fold(0, |set, g| set | bit(g))
+}
+
 /// Checks 1 to 4, then the kind's own.
 fn decide(sheet: &mut Sheet, record: &[u8]) -> Verdict {
     let &[l0, l1, k0, k1, ref fields @ ..] = record else {

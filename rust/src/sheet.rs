@@ -1,6 +1,8 @@
 //! The club sheet: three tables held by value, the founding, and a 960-byte picture of any
 //! sheet value, both ways. Nothing here judges; see `plain`, `sets` and `fast`.
 
+use crate::words::turned;
+
 /// "64 objects, numbers 0 to 63."
 pub const OBJECTS: usize = 64;
 /// "32 warrants, places 0 to 31."
@@ -21,7 +23,8 @@ pub const ADMINISTRATOR: u8 = 3;
 /// The cited rule of every answer but an accepted USE.
 pub const NO_RULE: u8 = 255;
 
-/// Length of a sheet's picture: 64 sorts, 64 rows of 8, 32 warrants of 4, 64 rules of 4.
+/// Length of a sheet's picture: 64 sorts, 64 rows of 8, 32 warrants of 4, 64 rules of 4. A row
+/// of a picture is an object's set of groups; a sheet keeps the same bits by group.
 pub const PICTURE: usize = ROWS_AT + 8 * OBJECTS + 4 * WARRANTS + 4 * RULES;
 
 const ROWS_AT: usize = OBJECTS;
@@ -109,7 +112,8 @@ impl Sheet {
     pub fn picture(&self) -> [u8; PICTURE] {
         let mut bytes = [0; PICTURE];
         bytes[..ROWS_AT].copy_from_slice(&self.sorts);
-        for (row, out) in self.members.iter().zip(bytes[ROWS_AT..].chunks_mut(8)) {
+        let groups = turned(self.members);
+        for (row, out) in groups.iter().zip(bytes[ROWS_AT..].chunks_mut(8)) {
             out.copy_from_slice(&row.to_le_bytes());
         }
         for (w, out) in self.warrants.iter().zip(bytes[WARRANTS_AT..].chunks_mut(4)) {
@@ -125,9 +129,11 @@ impl Sheet {
     pub fn from_picture(bytes: &[u8; PICTURE]) -> Sheet {
         let mut sheet = Sheet::empty();
         sheet.sorts.copy_from_slice(&bytes[..ROWS_AT]);
-        for (row, eight) in sheet.members.iter_mut().zip(bytes[ROWS_AT..].chunks(8)) {
+        let mut groups = [0; OBJECTS];
+        for (row, eight) in groups.iter_mut().zip(bytes[ROWS_AT..].chunks(8)) {
             *row = u64::from_le_bytes(eight.try_into().expect("chunks of 8"));
         }
+        sheet.members = turned(groups);
         for (w, four) in sheet
             .warrants
             .iter_mut()

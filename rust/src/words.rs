@@ -1,6 +1,6 @@
 //! Small words for sets: a number below 64 is a bit of a 64-bit set.
 
-use crate::sheet::{ADMINISTRATOR, GEAR, GROUP, OWNER};
+use crate::sheet::{ADMINISTRATOR, GEAR, GROUP, OBJECTS, OWNER};
 
 #[inline(always)]
 pub fn refuse_if(applies: bool, code: u8) -> Result<(), u8> {
@@ -55,4 +55,44 @@ pub fn each(mut set: u64) -> impl Iterator<Item = usize> {
         set &= set - 1;
         Some(lowest)
     })
+}
+
+/// The same bits with rows and columns exchanged: bit g of row x is bit x of row g. Square blocks
+/// off the diagonal change places, from the largest to single bits.
+pub fn turned(mut rows: [u64; OBJECTS]) -> [u64; OBJECTS] {
+    let mut width = OBJECTS / 2;
+    let mut low = u64::MAX >> width;
+    while width > 0 {
+        for first in (0..OBJECTS).step_by(2 * width) {
+            for upper in first..first + width {
+                let lower = upper + width;
+                let differ = (rows[upper] >> width ^ rows[lower]) & low;
+                rows[upper] ^= differ << width;
+                rows[lower] ^= differ;
+            }
+        }
+        width /= 2;
+        low ^= low << width;
+    }
+    rows
+}
+
+#[cfg(test)]
+mod tests {
+    use super::*;
+    use crate::generate::Rng;
+
+    /// Turned, a set of objects for each group is a set of groups for each object.
+    #[test]
+    fn rows_are_turned() {
+        let mut rng = Rng::new(22);
+        for _ in 0..200 {
+            let rows = std::array::from_fn(|_| rng.word());
+            for (x, groups) in turned(rows).into_iter().enumerate() {
+                for (g, objects) in rows.iter().enumerate() {
+                    assert_eq!(groups >> g & 1, objects >> x & 1);
+                }
+            }
+        }
+    }
 }

@@ -182,6 +182,29 @@ fn sheets_have_junk_in_every_field() {
     assert!(outside.iter().all(|&count| count >= 200), "{outside:?}");
 }
 
+/// So are their memberships, as the rows of a picture have them: in groups, in members and gear, in
+/// empty objects, of empty objects, and of groups in themselves.
+#[test]
+fn sheets_have_junk_among_their_memberships() {
+    let mut rng = Rng::new(80);
+    let mut stored = [0; 5];
+    for _ in 0..3000 {
+        let picture = generate::picture(&mut rng);
+        for x in 0..64 {
+            for g in (0..64).filter(|g| picture[64 + 8 * x + g / 8] >> (g % 8) & 1 == 1) {
+                let empty = |object: usize| !(1..=3).contains(&picture[object]);
+                stored[0] += (picture[g] == 1) as usize;
+                stored[1] += (picture[g] == 2 || picture[g] == 3) as usize;
+                stored[2] += empty(g) as usize;
+                stored[3] += empty(x) as usize;
+                stored[4] += (x == g && picture[g] == 1) as usize;
+            }
+        }
+    }
+    println!("in groups, in members and gear, in empty, of empty, in itself: {stored:?}");
+    assert!(stored.iter().all(|&count| count >= 1000), "{stored:?}");
+}
+
 /// From a long list in which one record after another shows something, only these two are left.
 #[test]
 fn the_shortest_list_has_what_it_needs() {

@@ -322,12 +322,39 @@ fn buffers_at_odd_addresses() {
 
 // ---- The picture of a sheet -------------------------------------------------------------
 
+/// Sheets of any value come back from their pictures, and any 960 bytes from their sheets, the
+/// marks excepted.
 #[test]
 fn picture_goes_both_ways() {
     let mut rng = Rng::new(6);
     for _ in 0..1000 {
         let sheet = generate::sheet(&mut rng);
         assert_eq!(Sheet::from_picture(&sheet.picture()), sheet);
+
+        let mut bytes = [0; PICTURE];
+        bytes.fill_with(|| rng.byte());
+        let mut marked = bytes;
+        for mark in marked[RULES_AT..].iter_mut().step_by(4) {
+            *mark = (*mark == 1) as u8;
+        }
+        assert_eq!(Sheet::from_picture(&bytes).picture(), marked);
+    }
+}
+
+/// A row of a picture has the groups that an object is stored in, eight to a byte, the lowest
+/// first; whatever the objects and the groups are.
+#[test]
+fn rows_of_a_picture_are_by_object() {
+    let mut rng = Rng::new(7);
+    for _ in 0..100 {
+        let sheet = generate::sheet(&mut rng);
+        let picture = sheet.picture();
+        for x in 0..64 {
+            for g in 0..64 {
+                let shown = picture[64 + 8 * x + g / 8] >> (g % 8) & 1 == 1;
+                assert_eq!(shown, sheet.members[g] >> x & 1 == 1, "{x} in {g}");
+            }
+        }
     }
 }
 
@@ -336,7 +363,7 @@ fn picture_of_the_founding() {
     let mut expected = [0; PICTURE];
     expected[0] = 1;
     expected[1] = 2;
-    expected[64] = 2;
+    expected[72] = 1;
     expected[576] = 1;
     expected[577] = 1;
     assert_eq!(board::founding(), expected);

@@ -85,8 +85,8 @@ fn club() -> [u8; PICTURE] {
     let mut picture = board::founding();
     picture[5] = 3;
     picture[9] = 3;
-    picture[64] |= 1 << 1 | 1 << 5;
-    picture[65] |= 1 << (9 - 8);
+    picture[64 + 8 * 5] |= 1 << 0;
+    picture[64 + 8 * 9] |= 1 << 0;
     picture[580..584].copy_from_slice(&[3, 1, 0, 0]);
     picture[704 + 28..704 + 32].copy_from_slice(&[1, 0, 5, 0b11]);
     picture

@@ -94,18 +94,18 @@ module _ (p : Policy) (z : Sized p) where
       ap (λ (l : Bytes). byte l i) split
       ∙ List·getD-append (p .sorts) (rows p ++ (appointments p ++ rules p)) 0 i (omega (arith, z .sorts)))
 
-  row-byte : (g j : ℕ) → g < 64 → j < 8 → byte (pictureOf p) (64 + 8 * g + j) ≡ byte (rowBytes (getD (p .members) g 0)) j
-  row-byte g j h k =
-      table-byte rowBytes 8 (bytes-length 8) (appointments p ++ rules p) 0 (pictureOf p) (p .sorts) (p .members) 64 g j
-      split (z .sorts) (omega (arith, z .members)) k
+  row-byte : (x j : ℕ) → x < 64 → j < 8 → byte (pictureOf p) (64 + 8 * x + j) ≡ byte (rowBytes (getD (p .memberships) x 0)) j
+  row-byte x j h k =
+      table-byte rowBytes 8 (bytes-length 8) (appointments p ++ rules p) 0 (pictureOf p) (p .sorts) (p .memberships) 64 x j
+      split (z .sorts) (omega (arith, z .memberships)) k
 
-  rows-read : ((g : ℕ) → getD (p .members) g 0 < 2 ^ 64) → table 64 (rowAt (pictureOf p)) ≡ p .members
+  rows-read : ((x : ℕ) → getD (p .memberships) x 0 < 2 ^ 64) → table 64 (rowAt (pictureOf p)) ≡ p .memberships
   rows-read words =
-      table-of 64 (rowAt (pictureOf p)) (p .members) 0 (z .members)
-      (λ g h.
-      number-same 8 (pictureOf p) (rowBytes (getD (p .members) g 0)) (64 + 8 * g) 0
-      (λ j k. row-byte g j h k ∙ ap (byte (rowBytes (getD (p .members) g 0))) (omega arith))
-      ∙ number-of-bytes 8 (getD (p .members) g 0) (words g))
+      table-of 64 (rowAt (pictureOf p)) (p .memberships) 0 (z .memberships)
+      (λ x h.
+      number-same 8 (pictureOf p) (rowBytes (getD (p .memberships) x 0)) (64 + 8 * x) 0
+      (λ j k. row-byte x j h k ∙ ap (byte (rowBytes (getD (p .memberships) x 0))) (omega arith))
+      ∙ number-of-bytes 8 (getD (p .memberships) x 0) (words x))
 
   appointment-byte : (i j : ℕ) → i < 32 → j < 4
       → byte (pictureOf p) (576 + 4 * i + j) ≡ byte (appointmentBytes (getD (p .appointments) i noAppointment)) j
@@ -141,6 +141,6 @@ module _ (p : Policy) (z : Sized p) where
       rw (used, rule-byte i 1 h (lit< tt), rule-byte i 2 h (lit< tt), rule-byte i 3 h (lit< tt)))
 
   -- The picture of a policy gives the policy back.
-  pub policy-of-picture : ((g : ℕ) → getD (p .members) g 0 < 2 ^ 64) → policyOf (pictureOf p) ≡ p
+  pub policy-of-picture : ((x : ℕ) → getD (p .memberships) x 0 < 2 ^ 64) → policyOf (pictureOf p) ≡ p
   unfolding policyOf
   policy-of-picture words = rw (sorts-read, rows-read words, appointments-read, rules-read)

@@ -21,7 +21,7 @@ use Rattle.export.proofs.Storing.{sets-append, sets-front, bytes-length
 pub policy-sized : (b : Bytes) → Sized (policyOf b)
 unfolding policyOf
 policy-sized b =
-    record { sorts = table-length 64 _; members = table-length 64 _; appointments = table-length 32 _; rules = table-length 64 _ }
+    record { sorts = table-length 64 _; memberships = table-length 64 _; appointments = table-length 32 _; rules = table-length 64 _ }
 
 -- Bytes stored behind others.
 store-next : (l a b : Bytes) {n : ℕ} → length a ≡ n → sets (sets l 0 a) n b ≡ sets l 0 (a ++ b)
@@ -31,7 +31,7 @@ store-next l a b e = rw (← e) (sym (sets-append l 0 a b ∙ rw zero-add))
 
 -- The bytes of the tables behind the sorts.
 abbrev pub rows : Policy → Bytes
-rows p = flat rowBytes (p .members)
+rows p = flat rowBytes (p .memberships)
 
 abbrev pub appointments : Policy → Bytes
 appointments p = flat appointmentBytes (p .appointments)
@@ -41,7 +41,7 @@ rules p = flat ruleBytes (p .rules)
 
 module _ (p : Policy) (z : Sized p) where
   rows-length : length (rows p) ≡ 512
-  rows-length = flat-length rowBytes 8 (bytes-length 8) (p .members) ∙ ap (λ (n : ℕ). 8 * n) (z .members)
+  rows-length = flat-length rowBytes 8 (bytes-length 8) (p .memberships) ∙ ap (λ (n : ℕ). 8 * n) (z .memberships)
 
   appointments-length : length (appointments p) ≡ 128
   appointments-length = flat-length appointmentBytes 4 (λ _. refl) (p .appointments) ∙ ap (λ (n : ℕ). 4 * n) (z .appointments)

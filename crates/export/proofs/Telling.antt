@@ -6,8 +6,8 @@ use Prim.Native.Nat.{ℕ, _≤_, _<_}
 use lib.ListN.{length, set}
 use borrow.Author.Tests.{eq-eqb, ne-eqb, le-leb, lt-leb}
 use Rattle.reach.specs.declared.Policy.{Policy}
-use Rattle.rows.specs.declared.Gain.{Gain}
-use Rattle.rows.specs.declared.Gain.the-variants.{Permission, Nothing}
+use Rattle.gains.specs.declared.Gain.{Gain}
+use Rattle.gains.specs.declared.Gain.the-variants.{Permission, Nothing}
 use Rattle.judge.specs.Telling.{OwnGainOf}
 use Rattle.text.specs.Text.{Bytes}
 use Rattle.export.specs.Picture.{policyOf}

@@ -1,7 +1,7 @@
--- The 960-byte picture of a policy, as C and Rust hand it in and get it back: 64 sort bytes; 64 rows of 8 bytes, little-endian, row g the
--- set of what is directly in g, bit x object x; 32 appointments of 4 bytes (kind, holder, A, B); 64 rules of 4 bytes (mark: 1 in use, else
--- empty; U; T; operations). The definitions quote these words. Every policy that the program can
--- hold is the policy of its picture (proofs/Faithful, `policy-of-picture`).
+-- The 960-byte picture of a policy, as C and Rust hand it in and get it back: 64 sort bytes; 64 rows of 8 bytes,
+-- little-endian, row x the set of the groups that x is directly in, bit g group g; 32 appointments of 4 bytes (kind,
+-- holder, A, B); 64 rules of 4 bytes (mark: 1 in use, else empty; U; T; operations). The definitions quote these words.
+-- Every policy that the program can hold is the policy of its picture (proofs/Faithful, `policy-of-picture`).
 use mathlib.Core.Path.{_≡_}
 use mathlib.Core.Bool.{Bool, _&&_}
 use mathlib.Core.List.{List, [], _∷_, _++_}
@@ -42,9 +42,9 @@ ruleFrom b at =
 abbrev pub sortAt : Bytes → ℕ → ℕ
 sortAt b x = byte b x
 
--- "64 rows of 8 bytes, little-endian, row g the set of what is directly in g, bit x object x"
+-- "64 rows of 8 bytes, little-endian, row x the set of the groups that x is directly in, bit g group g"
 abbrev pub rowAt : Bytes → ℕ → ℕ
-rowAt b g = numberFrom 8 b (64 + 8 * g)
+rowAt b x = numberFrom 8 b (64 + 8 * x)
 
 -- "32 appointments of 4 bytes"
 abbrev pub appointmentAt : Bytes → ℕ → Appointment
@@ -59,7 +59,7 @@ unfoldable pub policyOf : Bytes → Policy
 policyOf b =
     record {
       sorts = table 64 (sortAt b);
-      members = table 64 (rowAt b);
+      memberships = table 64 (rowAt b);
       appointments = table 32 (appointmentAt b);
       rules = table 64 (ruleAt b);
     }
@@ -95,7 +95,7 @@ ruleBytes r = mark (r .used) ∷ r .users ∷ r .targets ∷ r .operations ∷ [
 
 -- The picture of a policy: "64 sort bytes; 64 rows of 8 bytes, ..; 32 appointments of 4 bytes ..; 64 rules of 4 bytes".
 unfoldable pub pictureOf : Policy → Bytes
-pictureOf p = p .sorts ++ flat rowBytes (p .members) ++ flat appointmentBytes (p .appointments) ++ flat ruleBytes (p .rules)
+pictureOf p = p .sorts ++ flat rowBytes (p .memberships) ++ flat appointmentBytes (p .appointments) ++ flat ruleBytes (p .rules)
 
 -- ---- The answer
 

@@ -6,8 +6,8 @@ use Prim.Native.Nat.{ℕ}
 use lib.Dec.{eqb, leb}
 use lib.ListN.{length}
 use Rattle.reach.specs.Tests.{_⇒_∥_}
-use Rattle.rows.specs.declared.Gain.{Gain}
-use Rattle.rows.specs.declared.Gain.the-variants.{Permission, Nothing}
+use Rattle.gains.specs.declared.Gain.{Gain}
+use Rattle.gains.specs.declared.Gain.the-variants.{Permission, Nothing}
 use Rattle.judge.specs.Telling.{OwnGainOf}
 use Rattle.text.specs.Text.{Bytes}
 use Rattle.list.specs.Filling.{over}

@@ -28,7 +28,7 @@ fn put_four(out: &mut [u8], at: usize, first: u8, second: u8, third: u8, fourth:
 }
 
 // The eight bytes of a number from a place on.
-fn put_word(out: &mut [u8], at: usize, word: u64)
+pub fn put_word(out: &mut [u8], at: usize, word: u64)
     requires { ⌜ at + 8 ≤ length (now out) ⌝ }
     ensures { λ _. ⌜ now (out .exit) ≡ sets (now (out .entry)) at (bytesOf 8 word) ⌝ }
 {
@@ -58,10 +58,10 @@ fn put_rows(out: &mut [u8], rows: [u64; 64])
     requires { ⌜ 960 ≤ length (now out) ⌝ }
     ensures { λ _. ⌜ now (out .exit) ≡ sets (now (out .entry)) 64 (flat rowBytes rows) ⌝ }
 {
-    let mut g: usize = 0;
-    while g < 64 {
-        put_word(out, 64 + 8 * g, rows[g]);
-        g = g + 1;
+    let mut x: usize = 0;
+    while x < 64 {
+        put_word(out, 64 + 8 * x, rows[x]);
+        x = x + 1;
     }
 }
 
@@ -104,7 +104,7 @@ pub fn put_policy(out: &mut [u8], p: Policy)
     ensures { λ _. ⌜ now (out .exit) ≡ sets (now (out .entry)) 0 (pictureOf p) ⌝ }
 {
     let sorts = p.sorts;
-    let rows = p.members;
+    let rows = p.memberships;
     let appointments = p.appointments;
     let rules = p.rules;
     put_sorts(out, sorts);

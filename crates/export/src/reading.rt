@@ -72,10 +72,10 @@ fn rows_of(picture: &[u8]) -> [u64; 64]
     ensures { λ r. ⌜ r ≡ table 64 (rowAt (now (picture .entry))) ⌝ }
 {
     let mut rows = [0u64; 64];
-    let mut g: usize = 0;
-    while g < 64 {
-        rows[g] = word_from(picture, 64 + 8 * g);
-        g = g + 1;
+    let mut x: usize = 0;
+    while x < 64 {
+        rows[x] = word_from(picture, 64 + 8 * x);
+        x = x + 1;
     }
     rows
 }
@@ -121,12 +121,12 @@ pub fn policy_of(picture: &[u8]) -> Policy
     ensures { λ r. ⌜ r ≡ policyOf (now (picture .entry)) ⌝ }
 {
     let sorts = sorts_of(picture);
-    let members = rows_of(picture);
+    let memberships = rows_of(picture);
     let appointments = appointments_of(picture);
     let rules = rules_of(picture);
     Policy {
         sorts: sorts,
-        members: members,
+        memberships: memberships,
         appointments: appointments,
         rules: rules,
     }

@@ -6,30 +6,20 @@ use lib.ListN.{getD}
 use Rattle.reach.specs.declared.Policy.{Policy}
 use Rattle.reach.specs.Words.{TableOf}
 use Rattle.reach.specs.Tables.{view}
-use Rattle.reach.specs.Reach.{InUse, Target}
+use Rattle.reach.specs.Reach.{InUse}
 use Rattle.reach.specs.Privileges.{Permitted}
-use Rattle.reach.proofs.WordSets.{set-as}
 use Rattle.rules.specs.declared.Request.{Request}
 use Rattle.rules.specs.Doing.{after}
-use Rattle.rows.specs.declared.Gain.{Gain}
-use Rattle.rows.specs.declared.Gain.the-variants.{Permission, Nothing}
-use Rattle.rows.specs.Rows.{New, FirstNew}
-use Rattle.rows.proofs.Surveyed.{new-at, at-new}
+use Rattle.gains.specs.declared.Gain.{Gain}
+use Rattle.gains.specs.declared.Gain.the-variants.{Permission, Nothing}
+use Rattle.gains.specs.Searching.{New, FirstNew}
+use Rattle.gains.proofs.News.{new-at, at-new}
 use Rattle.gains.specs.Giving.{ComesToUse, FirstPermission}
 
 module _ (p : Policy) (u : ℕ) (q : Request) where
   -- What he is permitted after the request, of what was in use before it.
   abbrev pub PermittedThere : ℕ → ℕ → Type 0
   PermittedThere k x = InUse (view p) x × Permitted (view (after p q)) u k x
-
-  -- That is all that he is permitted, where every target was in use before.
-  pub permitted-there : {got : List ℕ} → ((x : ℕ) → Target (view (after p q)) x → InUse (view p) x)
-      → TableOf 8 got (λ k x. Permitted (view (after p q)) u k x) → TableOf 8 got PermittedThere
-  permitted-there old g =
-      record {
-        long = g .long;
-        row = λ k l. set-as (g .row k l) (λ x w. (old x (w .target), w)) (λ x w. w .1);
-      }
 
   module _ {had got : List ℕ} (h : TableOf 8 had (λ k x. Permitted (view p) u k x)) (g : TableOf 8 got PermittedThere) where
     comes : {x k : ℕ} → k < 8 → New (getD had k 0) (getD got k 0) x → ComesToUse p u q x k

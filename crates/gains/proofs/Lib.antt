@@ -1,8 +1,15 @@
--- The laws by which checks 10 and 11 follow the rules, each file under its subject.
+-- The laws of the crate, each file under its subject.
+pub mod Downward
+pub mod PutHeld
+pub mod PutPair
+pub mod PutOver
+pub mod PutGives
+pub mod PutNamed
+pub mod Appointed
+pub mod Granted
+pub mod Outright
+pub mod News
+pub mod Spreading
 pub mod FirstFound
-pub mod Gaining
-pub mod AfterPut
-pub mod Growing
-pub mod Opening
-pub mod PutGain
-pub mod HandOver
+pub mod Searched
+pub mod Looking

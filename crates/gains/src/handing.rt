@@ -1,100 +1,79 @@
 // Check 11: what PUT would hand over.
 ghost use mathlib.Core.Path.{_≡_};
+ghost use Prim.Native.Nat.{_<_};
 ghost use lib.ListN.{getD};
-ghost use Rattle.reach.specs.declared.Policy.{Policy};
-ghost use Rattle.reach.specs.Tests.{Some, Decides};
+ghost use Rattle.reach.specs.Words.{SetOf};
+ghost use Rattle.reach.specs.Tests.{Some};
 ghost use Rattle.reach.specs.Tables.{noAppointment};
-ghost use Rattle.reach.specs.Surveys.{MasksOf, ClosureOf};
 ghost use Rattle.rules.specs.declared.Request.the-variants.{Put};
 ghost use Rattle.rules.specs.Refusals.{handOver};
-ghost use Rattle.rules.specs.Cleared.{Authorised};
-ghost use Rattle.rows.specs.Closing.{RowsFor};
-ghost use Rattle.gains.specs.Growth.{HandedBy};
+ghost use Rattle.gains.specs.Lacking.{HolderOf};
 use reach::Appointment;
-use reach::Masks;
+use reach::Policy;
+use reach::climb;
 use reach::has;
-use reach::row;
-use rows::held;
+use reach::just;
+use reach::sort_in;
 use rules::Request;
 
-// Whether the holder of this appointment, an owner's or a manager's, who has g by it, would come to hold some of the free objects that he
-// does not hold by that kind yet. What he has by this very appointment is taken off first: nearly always that leaves nothing.
-fn handed_by(
-    appointments: [Appointment; 32],
-    rows: &[u64; 64],
-    users: u64,
-    w: Appointment,
-    g: u8,
-    free: u64,
-) -> bool
-    ensures { λ r. ⌜ Decides r (HandedBy appointments (now (rows .entry)) users w g free) ⌝ }
+// The holder of this appointment, if it is of that kind and its A is in the set.
+fn holder_of(w: Appointment, kind: u8, over: u64) -> u64
+    ensures { λ r. ⌜ SetOf r (λ u. (u < 64) × HolderOf w kind over u) ⌝ }
 {
-    if !((w.kind == 1) | (w.kind == 2)) {
-        return false;
+    if w.kind != kind {
+        return 0;
     }
-    if !has(users, w.holder) {
-        return false;
+    if !has(over, w.a) {
+        return 0;
     }
-    let had = row(rows, w.a);
-    if !has(had, g) {
-        return false;
-    }
-    let more = free & !had;
-    if more == 0 {
-        return false;
-    }
-    more & !held(appointments, rows, w.kind, w.holder) != 0
+    just(w.holder)
 }
 
-// Whether some user comes to own or manage one of the free objects.
-fn handed(appointments: [Appointment; 32], rows: &[u64; 64], users: u64, g: u8, free: u64) -> bool
-    ensures { λ r. ⌜ Decides r (Some 32 (λ i.
-        HandedBy appointments (now (rows .entry)) users (getD appointments i noAppointment) g free)) ⌝ }
+// All who hold an appointment of that kind whose A is in the set.
+fn holders(appointments: [Appointment; 32], kind: u8, over: u64) -> u64
+    ensures { λ r. ⌜ SetOf r (λ u. Some 32 (λ i. (u < 64) × HolderOf (getD appointments i noAppointment) kind over u)) ⌝ }
 {
+    let mut set: u64 = 0;
     let mut i: usize = 0;
     while i < 32 {
-        if handed_by(appointments, rows, users, appointments[i], g, free) {
-            return true;
-        }
+        set |= holder_of(appointments[i], kind, over);
         i += 1;
     }
-    false
+    set
 }
 
-// PUT hands over what is under the object and not the sender's own, to whoever has the group.
-fn put_hands_over(
-    rows: &[u64; 64],
-    m: Masks,
-    appointments: [Appointment; 32],
-    u: u8,
-    object: u8,
-    group: u8,
-) -> bool
-    ensures { λ r. ⌜ ((p : Policy) → MasksOf p m → ClosureOf p (now (rows .entry)) → p .appointments ≡ appointments →
-        Authorised p u (Put object group) → r ≡ handOver p u (Put object group)) ⌝ }
+// PUT hands something over exactly if its sender does not own the object, and some user holds the group and not the object in one of the
+// two ways.
+fn put_hands_over(p: Policy, u: u8, x: u8, g: u8) -> bool
+    ensures { λ r. ⌜ r ≡ handOver p u (Put x g) ⌝ }
 {
-    let own = held(appointments, rows, 1, u);
-    let free = row(rows, object) & !own;
-    if free == 0 {
+    let put = sort_in(&p.sorts, x);
+    let into = sort_in(&p.sorts, g);
+    if !((put != 0) & (into == 1)) {
         return false;
     }
-    handed(appointments, rows, m.users, group, free)
+    if p.owns(u, x) {
+        return false;
+    }
+    let object = climb(&p.sorts, &p.memberships, x);
+    let group = climb(&p.sorts, &p.memberships, g);
+    let appointments = p.appointments;
+    let owners = holders(appointments, 1, group) & !holders(appointments, 1, object);
+    let managers = holders(appointments, 2, group) & !holders(appointments, 2, object);
+    if owners | managers == 0 {
+        return false;
+    }
+    let m = p.masks();
+    (owners | managers) & m.users != 0
 }
 
 // Check 11.
-pub fn hand_over(
-    rows: &[u64; 64],
-    m: Masks,
-    appointments: [Appointment; 32],
-    u: u8,
-    q: Request,
-) -> bool
-    ensures { λ r. ⌜ ((p : Policy) → MasksOf p m → RowsFor p q (now (rows .entry)) → p .appointments ≡ appointments → Authorised p u q →
-        r ≡ handOver p u q) ⌝ }
+pub fn hand_over(p: Policy, u: u8, q: Request) -> bool
+    ensures { λ r. ⌜ r ≡ handOver p u q ⌝ }
 {
     match q {
         Request::Make { place, sort, group } => false,
-        Request::Put { object, group } => put_hands_over(rows, m, appointments, u, object, group),
+        Request::Put { object, group } => put_hands_over(p, u, object, group),
         Request::Take { object, group } => false,
         Request::Appoint {
             place,

@@ -1,8 +1,17 @@
-// Checks 10 and 11: what a request would give its sender, and hand over to others. Both look at what is under each object, in rows of
-// 64-bit sets (the crate `rows`).
+// Checks 10 and 11: what a request would give its sender, and hand over to others. What one holds is closed downward, so that a PUT is
+// judged by what its two objects are under; only a permission is searched for, target by target.
+mod granting;
 mod handing;
 mod own;
 mod putting;
+mod searching;
 
 pub use handing::hand_over;
 pub use own::own_gain;
+pub use searching::gained;
+
+// A permission that is gained, target and operation, or none.
+pub enum Gain {
+    Permission(u8, u8),
+    Nothing,
+}

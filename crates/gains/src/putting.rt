@@ -1,205 +1,125 @@
-// Own gain by a PUT: what grows once what is below its object comes under its group.
+// Own gain by a PUT, asked of what its object and its group are under.
 ghost use mathlib.Core.Path.{_≡_};
-ghost use lib.ListN.{getD};
+ghost use mathlib.Core.Logic.{_⊎_};
+ghost use Prim.Native.Nat.{ℕ, _<_};
 ghost use Rattle.reach.specs.Tests.{Some, Decides};
-ghost use Rattle.reach.specs.declared.Policy.{Policy};
-ghost use Rattle.reach.specs.Tables.{noAppointment, noRule};
-ghost use Rattle.reach.specs.Surveys.{MasksOf, ClosureOf};
+ghost use Rattle.reach.specs.Tables.{view};
+ghost use Rattle.reach.specs.Reach.{User};
 ghost use Rattle.rules.specs.declared.Request.the-variants.{Put};
 ghost use Rattle.rules.specs.Refusals.{ownGain};
-ghost use Rattle.rules.specs.Cleared.{Authorised};
-ghost use Rattle.gains.specs.Giving.{NewPair, NewHolding, FirstPermission};
-ghost use Rattle.gains.specs.Growth.{Grows, AnyGrows, AdminGrows, RuleGrows};
-use reach::AccessRule;
+ghost use Rattle.gains.specs.Lacking.{LacksA, LacksB, LacksPairBy, LacksPermit, Above};
+ghost use Rattle.gains.specs.Searching.{found};
+use crate::Gain;
+use crate::granting::granted;
+use crate::searching::first_fresh;
+use crate::searching::fresh;
+use crate::searching::worth;
 use reach::Appointment;
-use reach::Masks;
+use reach::Policy;
+use reach::climb;
 use reach::has;
-use reach::row;
-use rows::Gain;
-use rows::administered;
-use rows::gained;
-use rows::held;
-use rows::new_pair;
-use rows::permitted;
-use rows::put_rows;
+use reach::sort_in;
 
-// Whether who has this set by appointments of one kind, or under one group, comes to have more of it, once what is below comes under g.
-fn grows(set: u64, g: u8, below: u64) -> bool
-    ensures { λ r. ⌜ Decides r (Grows set g below) ⌝ }
+// Whether its A is above g and not above x, its B is in use, and u does not administer the pair of x and its B.
+fn first_comes(p: Policy, u: u8, x: u8, w: Appointment, object: u64, group: u64) -> bool
+    ensures { λ r. ⌜ ((g : ℕ) → Above p x object → Above p g group → Decides r (LacksA (view p) u x g (w .a) (w .b))) ⌝ }
 {
-    if !has(set, g) {
+    if !(has(group, w.a) & !has(object, w.a) & p.in_use(w.b)) {
         return false;
     }
-    below & !set != 0
+    !p.administers(u, x, w.b)
 }
 
-// Whether this appointment is u's and what is under its A or B grows, once what is below comes under g. Of whatever kind: where none does,
-// nothing that u holds grows.
-fn grows_by(w: Appointment, rows: &[u64; 64], u: u8, g: u8, below: u64) -> bool
-    ensures { λ r. ⌜ Decides r (AnyGrows w (now (rows .entry)) u g below) ⌝ }
+// The same with the sides exchanged.
+fn second_comes(p: Policy, u: u8, x: u8, w: Appointment, object: u64, group: u64) -> bool
+    ensures { λ r. ⌜ ((g : ℕ) → Above p x object → Above p g group → Decides r (LacksB (view p) u x g (w .a) (w .b))) ⌝ }
 {
-    if w.holder != u {
+    if !(has(group, w.b) & !has(object, w.b) & p.in_use(w.a)) {
         return false;
     }
-    grows(row(rows, w.a), g, below) | grows(row(rows, w.b), g, below)
+    !p.administers(u, w.a, x)
 }
 
-// Whether one of u's appointments does.
-fn some_grow(appointments: [Appointment; 32], rows: &[u64; 64], u: u8, g: u8, below: u64) -> bool
-    ensures { λ r. ⌜ Decides r (Some 32 (λ i. AnyGrows (getD appointments i noAppointment) (now (rows .entry)) u g below)) ⌝ }
+// Whether u comes to administer a pair by this administrator's appointment of his: that of x and its other side.
+fn pair_by(p: Policy, u: u8, x: u8, w: Appointment, object: u64, group: u64) -> bool
+    ensures { λ r. ⌜ ((g : ℕ) → Above p x object → Above p g group →
+        Decides r (LacksA (view p) u x g (w .a) (w .b) ⊎ LacksB (view p) u x g (w .a) (w .b))) ⌝ }
+{
+    if first_comes(p, u, x, w, object, group) {
+        return true;
+    }
+    second_comes(p, u, x, w, object, group)
+}
+
+// Whether by one of his appointments. The policy is handed on for those alone that are his and an administrator's.
+fn pairs_come(p: Policy, u: u8, x: u8, object: u64, group: u64) -> bool
+    ensures { λ r. ⌜ ((g : ℕ) → Above p x object → Above p g group → Decides r (Some 32 (LacksPairBy (view p) u x g))) ⌝ }
 {
     let mut i: usize = 0;
     while i < 32 {
-        if grows_by(appointments[i], rows, u, g, below) {
-            return true;
+        let w = p.appointments[i];
+        if w.holder == u {
+            if w.kind == 3 {
+                if pair_by(p, u, x, w, object, group) {
+                    return true;
+                }
+            }
         }
         i += 1;
     }
     false
 }
 
-// Whether this appointment, if it is an administrator's and u's, covers more, once what is below comes under g.
-fn admin_grows_by(w: Appointment, rows: &[u64; 64], u: u8, g: u8, below: u64) -> bool
-    ensures { λ r. ⌜ Decides r (AdminGrows w (now (rows .entry)) u g below) ⌝ }
+// The permission that the search finds: one that u has once x is in g, and lacks before. There is none, if x is another user; and unless he
+// is under x himself, the rules that cover him stay the same.
+fn put_permission(p: Policy, u: u8, x: u8, object: u64, group: u64) -> Gain
+    ensures { λ r. ⌜ ((g : ℕ) → User (view p) u → Above p x object → Above p g group →
+        Decides (found r) (LacksPermit (view p) u x g)) ⌝ }
 {
-    if w.kind != 3 {
-        return false;
-    }
-    grows_by(w, rows, u, g, below)
-}
-
-// Whether one of u's administrator appointments does.
-fn admin_grows(appointments: [Appointment; 32], rows: &[u64; 64], u: u8, g: u8, below: u64) -> bool
-    ensures { λ r. ⌜ Decides r (Some 32 (λ i. AdminGrows (getD appointments i noAppointment) (now (rows .entry)) u g below)) ⌝ }
-{
-    let mut i: usize = 0;
-    while i < 32 {
-        if admin_grows_by(appointments[i], rows, u, g, below) {
-            return true;
-        }
-        i += 1;
-    }
-    false
-}
-
-// Whether this rule, if it is in use, permits u more, once what is below comes under g: he comes among its users, or something under its
-// targets.
-fn rule_grows_by(rule: AccessRule, rows: &[u64; 64], u: u8, g: u8, below: u64) -> bool
-    ensures { λ r. ⌜ Decides r (RuleGrows rule (now (rows .entry)) u g below) ⌝ }
-{
-    if !rule.used {
-        return false;
-    }
-    let users = row(rows, rule.users);
-    if has(users, u) {
-        return grows(row(rows, rule.targets), g, below);
-    }
-    has(below, u) & has(users, g)
-}
-
-// Whether one of the rules does.
-fn rule_grows(rules: [AccessRule; 64], rows: &[u64; 64], u: u8, g: u8, below: u64) -> bool
-    ensures { λ r. ⌜ Decides r (Some 64 (λ i. RuleGrows (getD rules i noRule) (now (rows .entry)) u g below)) ⌝ }
-{
-    let mut i: usize = 0;
-    while i < 64 {
-        if rule_grows_by(rules[i], rows, u, g, below) {
-            return true;
-        }
-        i += 1;
-    }
-    false
-}
-
-// Whether PUT gives its sender a pair to administer: none without an appointment that grows, and else the pairs before and after tell.
-fn pairs_grow(
-    rows: &[u64; 64],
-    appointments: [Appointment; 32],
-    u: u8,
-    object: u8,
-    group: u8,
-) -> bool
-    ensures { λ r. ⌜ ((p : Policy) → ClosureOf p (now (rows .entry)) → p .appointments ≡ appointments →
-        Authorised p u (Put object group) → Decides r (NewPair p u (Put object group))) ⌝ }
-{
-    if !admin_grows(appointments, rows, u, group, row(rows, object)) {
-        return false;
-    }
-    let after = put_rows(rows, object, group);
-    let had = administered(appointments, rows, u);
-    let got = administered(appointments, &after, u);
-    new_pair(had, got)
-}
-
-// Whether PUT gives its sender something to own, to manage or to administer: nothing, if no appointment of his grows, and nearly always
-// that is so; else what he has by them tells.
-fn holdings_grow(
-    rows: &[u64; 64],
-    appointments: [Appointment; 32],
-    u: u8,
-    object: u8,
-    group: u8,
-) -> bool
-    ensures { λ r. ⌜ ((p : Policy) → ClosureOf p (now (rows .entry)) → p .appointments ≡ appointments →
-        Authorised p u (Put object group) → Decides r (NewHolding p u (Put object group))) ⌝ }
-{
-    let below = row(rows, object);
-    if !some_grow(appointments, rows, u, group, below) {
-        return false;
-    }
-    if grows(held(appointments, rows, 1, u), group, below) {
-        return true;
-    }
-    if grows(held(appointments, rows, 2, u), group, below) {
-        return true;
-    }
-    pairs_grow(rows, appointments, u, object, group)
-}
-
-// The first permission that PUT gives its sender: none, if neither a target nor he himself is below the object, and none without a rule
-// that grows; else the search through the permissions before and after finds it.
-fn put_permission(
-    rows: &[u64; 64],
-    m: Masks,
-    rules: [AccessRule; 64],
-    u: u8,
-    object: u8,
-    group: u8,
-) -> Gain
-    ensures { λ r. ⌜ ((p : Policy) → MasksOf p m → ClosureOf p (now (rows .entry)) → p .rules ≡ rules →
-        Authorised p u (Put object group) → FirstPermission p u (Put object group) r) ⌝ }
-{
-    let below = row(rows, object);
-    if (below & m.targets == 0) & !has(below, u) {
+    if (sort_in(&p.sorts, x) == 2) & (x != u) {
         return Gain::Nothing;
     }
-    if !rule_grows(rules, rows, u, group, below) {
+    let over = climb(&p.sorts, &p.memberships, u);
+    let rules = p.rules;
+    let had = granted(rules, over);
+    if !has(over, x) {
+        if !worth(had, had, object, group) {
+            return Gain::Nothing;
+        }
+        return first_fresh(&p.sorts, &p.memberships, had, had, x, group);
+    }
+    let got = granted(rules, over | group);
+    if !worth(had, got, object, group) {
         return Gain::Nothing;
     }
-    let after = put_rows(rows, object, group);
-    let had = permitted(rules, rows, m.targets, u);
-    let got = permitted(rules, &after, m.targets, u);
-    gained(had, got)
+    first_fresh(&p.sorts, &p.memberships, had, got, x, group)
 }
 
-// PUT gives its sender what is below the object, wherever he has the group; and the permission, if one is found.
-pub fn put_gains(
-    rows: &[u64; 64],
-    m: Masks,
-    appointments: [Appointment; 32],
-    rules: [AccessRule; 64],
-    u: u8,
-    object: u8,
-    group: u8,
-) -> bool
-    ensures { λ r. ⌜ ((p : Policy) → MasksOf p m → ClosureOf p (now (rows .entry)) → p .appointments ≡ appointments → p .rules ≡ rules →
-        Authorised p u (Put object group) → r ≡ ownGain p u (Put object group)) ⌝ }
+// PUT gives its sender something exactly if he holds the group and not the object in one of the two ways, or a pair comes, or a permission
+// is found.
+pub fn put_gains(p: Policy, u: u8, x: u8, g: u8) -> bool
+    ensures { λ r. ⌜ r ≡ ownGain p u (Put x g) ⌝ }
 {
-    if holdings_grow(rows, appointments, u, object, group) {
+    let sender = sort_in(&p.sorts, u);
+    let put = sort_in(&p.sorts, x);
+    let into = sort_in(&p.sorts, g);
+    if !((sender == 2) & (put != 0) & (into == 1)) {
+        return false;
+    }
+    let object = p.above(x);
+    let group = p.above(g);
+    let posts = p.posts(u);
+    if fresh(posts.owner, posts.owner, object, group) {
         return true;
     }
-    match put_permission(rows, m, rules, u, object, group) {
-        Gain::Permission(x, k) => true,
+    if fresh(posts.manager, posts.manager, object, group) {
+        return true;
+    }
+    if pairs_come(p, u, x, object, group) {
+        return true;
+    }
+    match put_permission(p, u, x, object, group) {
+        Gain::Permission(y, k) => true,
         Gain::Nothing => false,
     }
 }

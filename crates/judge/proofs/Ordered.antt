@@ -99,6 +99,15 @@ module _ (p : Policy) (b : List ℕ) (u : ℕ) (q : Request) where
   pub verdict-done : Passed p b u q 12 → done p u q ≡ verdictOn p b u q
   verdict-done k = sym (table ∙ first-none (tests p b u q) refusals (done p u q) (k .none))
 
+  -- A USE, to which no check after the ninth applies, is done if it passes that one.
+  pub verdict-of-use : Passed p b u q 8 → ((ownGain p u q ≡ false) × (handOver p u q ≡ false)) × (orphan p q ≡ false)
+      → (noAuthority p u q ⇒ NoAuthority ∥ done p u q) ≡ verdictOn p b u q
+  verdict-of-use k after = go (noAuthority p u q) refl
+    where
+      go : (t : Bool) → noAuthority p u q ≡ t → (t ⇒ NoAuthority ∥ done p u q) ≡ verdictOn p b u q
+      go true e = verdict-stops 8 (omega arith) k e
+      go false e = verdict-done (pass (pass (pass (pass k e) (after .0 .0)) (after .0 .1)) (after .1))
+
 -- That of the record's own sender and request is the verdict on the record.
 pub verdict-of : (p : Policy) (b : List ℕ) {u : ℕ} {q : Request} {v : Verdict} → u ≡ sender b → q ≡ request b → v ≡ verdictOn p b u q
     → v ≡ verdict p b

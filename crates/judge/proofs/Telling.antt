@@ -11,8 +11,8 @@ use Rattle.reach.specs.declared.Policy.{Policy}
 use Rattle.rules.specs.declared.Request.{Request}
 use Rattle.rules.specs.Records.{sender, request}
 use Rattle.rules.specs.Judging.{codeOf, judge}
-use Rattle.rows.specs.declared.Gain.{Gain}
-use Rattle.rows.specs.declared.Gain.the-variants.{Permission, Nothing}
+use Rattle.gains.specs.declared.Gain.{Gain}
+use Rattle.gains.specs.declared.Gain.the-variants.{Permission, Nothing}
 use Rattle.gains.specs.Giving.{ComesToUse, FirstPermission}
 use Rattle.judge.specs.Telling.{OwnGainOf}
 

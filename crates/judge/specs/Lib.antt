@@ -1,3 +1,7 @@
--- How the judge's code puts its answer together, and what it tells of a refusal for own gain.
+-- How the judge's code asks its checks and puts its answer together, and what it tells of a refusal for own gain.
+pub mod Naming
+pub mod Lending
+pub mod Kind
+pub mod Using
 pub mod Answering
 pub mod Telling

@@ -5,8 +5,8 @@ use Prim.Native.Nat.{ℕ}
 use Rattle.reach.specs.declared.Policy.{Policy}
 use Rattle.rules.specs.Records.{sender, request}
 use Rattle.rules.specs.Judging.{codeOf, judge}
-use Rattle.rows.specs.declared.Gain.{Gain}
-use Rattle.rows.specs.declared.Gain.the-variants.{Nothing}
+use Rattle.gains.specs.declared.Gain.{Gain}
+use Rattle.gains.specs.declared.Gain.the-variants.{Nothing}
 use Rattle.gains.specs.Giving.{FirstPermission}
 
 -- [01:runner.4] The first permission that a record would give its sender, if it is refused with 10, own gain: where it would give him none,

@@ -1,12 +1,9 @@
 // What an accepted request does.
 ghost use mathlib.Core.Path.{_≡_};
 ghost use Rattle.rules.specs.Doing.{after};
-ghost use Rattle.rules.specs.Judging.{doneBy};
 use reach::Appointment;
-use reach::Place;
 use reach::Policy;
 use rules::Request;
-use rules::Verdict;
 
 // The policy after a request, were it accepted: the policy hands back its successor. This is the one place that carries a request out.
 pub fn after(p: Policy, q: Request) -> Policy
@@ -35,15 +32,5 @@ pub fn after(p: Policy, q: Request) -> Policy
         } => p.granted(place, users, targets, operations),
         Request::Withdraw { place } => p.withdrawn(place),
         Request::Use { .. } => p,
-    }
-}
-
-// The verdict on an accepted request: a USE is done by the rule that permits it.
-pub fn done(by: Place) -> Verdict
-    ensures { λ r. ⌜ r ≡ doneBy by ⌝ }
-{
-    match by {
-        Place::At(i) => Verdict::DoneBy(i),
-        Place::Nothing => Verdict::Done,
     }
 }

@@ -8,11 +8,11 @@ ghost use Rattle.judge.specs.Telling.{OwnGainOf};
 use crate::doing::after;
 use crate::judge;
 use crate::numbers::code_of;
-use forms::request_of;
+use crate::records::request_of;
 use frame::byte;
+use gains::Gain;
+use gains::gained;
 use reach::Policy;
-use rows::Gain;
-use rows::gained;
 use rules::Request;
 
 // For each operation those of the objects on which u is permitted it.

@@ -1,47 +1,47 @@
 // The judge: one request on one policy, answered as the crate `rules` says.
 ghost use mathlib.Core.Path.{_≡_};
-ghost use Rattle.reach.specs.Tables.{Sized};
-ghost use Rattle.reach.specs.Surveys.{Whose};
 ghost use Rattle.rules.specs.Judging.{judge, verdictOn, OneAnswer};
 ghost use Rattle.judge.specs.Answering.{answered};
 
+mod authority;
 mod doing;
+mod form;
 mod gaining;
+mod kinds;
 mod numbers;
+mod orphans;
+mod records;
+mod using;
 
-use checks::no_authority;
-use checks::orphan;
-use checks::permitting_rule;
+use authority::no_authority;
 use doing::after;
-use doing::done;
-use forms::absent;
-use forms::already_so;
-use forms::misfit;
-use forms::off_the_sheet;
-use forms::place_of;
-use forms::request_of;
-use forms::stranger;
-use forms::torn;
-use forms::unknown;
-use forms::wrong_sort;
+use form::absent;
+use form::already_so;
+use form::misfit;
+use form::off_the_sheet;
+use form::stranger;
+use form::torn;
+use form::unknown;
+use form::wrong_sort;
 use frame::byte;
 pub use gaining::own_gain_of;
 pub use gaining::permission_gained;
 use gains::hand_over;
 use gains::own_gain;
+use kinds::can_gain;
+use kinds::can_hand_over;
+use kinds::can_orphan;
+use kinds::is_use;
 pub use numbers::cited_of;
 pub use numbers::code_of;
-use reach::AccessRule;
-use reach::Appointment;
-use reach::Masks;
+use orphans::orphan;
 use reach::Policy;
-use reach::appointment_at;
-use reach::masks_of;
-use reach::rule_at;
-use rows::rows_for;
+use records::named_in;
+use records::request_of;
 use rules::Answer;
 use rules::Request;
 use rules::Verdict;
+use using::used;
 
 // A policy, and a verdict on it.
 fn answer(p: Policy, v: Verdict) -> Answer
@@ -53,19 +53,10 @@ fn answer(p: Policy, v: Verdict) -> Answer
     }
 }
 
-// The verdict on one record, sent by u, that asks for q, from the tables of a policy: that of the first check that applies, or else done.
-// This is the one place that knows the order of the checks.
-fn verdict(
-    members: &[u64; 64],
-    m: Masks,
-    appointments: [Appointment; 32],
-    rules: [AccessRule; 64],
-    bytes: &[u8],
-    u: u8,
-    q: Request,
-) -> Verdict
-    ensures { λ r. ⌜ Whose (now (members .entry)) m (λ p.
-        Sized p → p .appointments ≡ appointments → p .rules ≡ rules → r ≡ verdictOn p (now (bytes .entry)) u q) ⌝ }
+// The verdict on one record, sent by u, that asks for q: that of the first check that applies, or else done. This is the
+// one place that knows the order of the checks. A USE is decided by the rules at check 9, and can fail none after it.
+fn verdict(p: Policy, bytes: &[u8], u: u8, q: Request) -> Verdict
+    ensures { λ r. ⌜ r ≡ verdictOn p (now (bytes .entry)) u q ⌝ }
 {
     if torn(bytes) {
         return Verdict::Torn;
@@ -76,38 +67,46 @@ fn verdict(
     if misfit(bytes) {
         return Verdict::Misfit;
     }
-    if stranger(m, u) {
+    if stranger(&p.sorts, u) {
         return Verdict::Stranger;
     }
     if off_the_sheet(q) {
         return Verdict::OffTheSheet;
     }
-    let w = appointment_at(appointments, place_of(q));
-    let rule = rule_at(rules, place_of(q));
-    if absent(m, w, rule, q) {
+    let appointments = p.appointments;
+    let rules = p.rules;
+    let named = named_in(appointments, rules, q);
+    if absent(&p.sorts, named, q) {
         return Verdict::Absent;
     }
-    if wrong_sort(m, q) {
+    if wrong_sort(&p.sorts, q) {
         return Verdict::WrongSort;
     }
-    if already_so(members, m, w, rule, q) {
+    if already_so(&p.sorts, &p.memberships, named, q) {
         return Verdict::AlreadySo;
     }
-    let by = permitting_rule(members, m, rules, u, q);
-    if no_authority(members, m, appointments, w, rule, by, u, q) {
+    if is_use(q) {
+        return used(p, u, q);
+    }
+    if no_authority(&p.sorts, &p.memberships, appointments, named, u, q) {
         return Verdict::NoAuthority;
     }
-    let rows = rows_for(members, m, q);
-    if own_gain(members, m, &rows, appointments, rules, u, q) {
-        return Verdict::OwnGain;
+    if can_gain(q) {
+        if own_gain(p, u, q) {
+            return Verdict::OwnGain;
+        }
     }
-    if hand_over(&rows, m, appointments, u, q) {
-        return Verdict::HandOver;
+    if can_hand_over(q) {
+        if hand_over(p, u, q) {
+            return Verdict::HandOver;
+        }
     }
-    if orphan(members, m, appointments, q) {
-        return Verdict::Orphan;
+    if can_orphan(q) {
+        if orphan(p, q) {
+            return Verdict::Orphan;
+        }
     }
-    done(by)
+    Verdict::Done
 }
 
 // The judge: the answer to one record on one policy, for every policy and all bytes. The first clause is demand 2, every answer and
@@ -116,13 +115,9 @@ pub fn judge(p: Policy, bytes: &[u8]) -> Answer
     ensures { λ r. ⌜ r ≡ judge p (now (bytes .entry)) ⌝ }
     ensures { λ r. ⌜ OneAnswer p r ⌝ }
 {
-    let sorts = p.sorts;
-    let m = masks_of(sorts);
-    let appointments = p.appointments;
-    let rules = p.rules;
     let u = byte(bytes, 4);
     let q = request_of(bytes);
-    let v = verdict(&p.members, m, appointments, rules, bytes, u, q);
+    let v = verdict(p, bytes, u, q);
     if code_of(v) == 0 {
         return answer(after(p, q), v);
     }

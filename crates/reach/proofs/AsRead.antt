@@ -1,7 +1,7 @@
 -- The places of a policy read as its tables have them, and each successor of a policy reads as its change says.
 -- A store into a table is read back at its place and nowhere else, and so is a store into a set.
 use mathlib.Core.Path.{_≡_, refl, sym, ap, _∙_}
-use mathlib.Core.Bool.{Bool, true, false, _&&_, and-true, and-false}
+use mathlib.Core.Bool.{Bool, true, false, _&&_}
 use mathlib.Core.List.{List, map}
 use Prim.Native.Nat.{ℕ, _^_, _<_}
 use native.Mathlib.Nat.{zero-div}
@@ -39,24 +39,24 @@ read-set f l i j a d h = go (ℕ-discrete j i)
     go (yes e) = rw (e, eq-eqb i i refl, getD-set-same l i a d h)
     go (no n) = rw (ne-eqb j i n, getD-set-other l i j a d n)
 
--- One row of the table written over at x, read as the whole table.
-row-written : (f : ℕ → ℕ) (b : Bool) (l : List ℕ) (x g y h : ℕ) → g < length l
-    → has (f (getD l g 0)) y ≡ (eqb y x ⇒ b ∥ has (getD l g 0) y)
-    → has (getD (set l g (f (getD l g 0))) h 0) y ≡ (eqb y x && eqb h g ⇒ b ∥ has (getD l h 0) y)
-row-written f b l x g y h low e = read-set (λ w. has w y) l g h (f (getD l g 0)) 0 low ∙ go (ℕ-discrete h g)
+-- One row of the table written over at g, read as the whole table.
+row-written : (f : ℕ → ℕ) (b : Bool) (l : List ℕ) (x g y h : ℕ) → x < length l
+    → has (f (getD l x 0)) h ≡ (eqb h g ⇒ b ∥ has (getD l x 0) h)
+    → has (getD (set l x (f (getD l x 0))) y 0) h ≡ (eqb y x && eqb h g ⇒ b ∥ has (getD l y 0) h)
+row-written f b l x g y h low e = read-set (λ w. has w h) l x y (f (getD l x 0)) 0 low ∙ go (ℕ-discrete y x)
   where
-    go : Dec (h ≡ g)
-        → (eqb h g ⇒ has (f (getD l g 0)) y ∥ has (getD l h 0) y) ≡ (eqb y x && eqb h g ⇒ b ∥ has (getD l h 0) y)
-    go (yes q) = rw (q, eq-eqb g g refl, and-true) e
-    go (no n) = rw (ne-eqb h g n, and-false)
+    go : Dec (y ≡ x)
+        → (eqb y x ⇒ has (f (getD l x 0)) h ∥ has (getD l y 0) h) ≡ (eqb y x && eqb h g ⇒ b ∥ has (getD l y 0) h)
+    go (yes q) = rw (q, eq-eqb x x refl) e
+    go (no n) = rw (ne-eqb y x n)
 
-has-added : (l : List ℕ) (x g y h : ℕ) → g < length l
-    → has (getD (addTo l x g) h 0) y ≡ (eqb y x && eqb h g ⇒ true ∥ has (getD l h 0) y)
-has-added l x g y h low = row-written (withBit x) true l x g y h low (has-with x (getD l g 0) y)
+has-added : (l : List ℕ) (x g y h : ℕ) → x < length l
+    → has (getD (addTo l x g) y 0) h ≡ (eqb y x && eqb h g ⇒ true ∥ has (getD l y 0) h)
+has-added l x g y h low = row-written (withBit g) true l x g y h low (has-with g (getD l x 0) h)
 
-has-removed : (l : List ℕ) (x g y h : ℕ) → g < length l
-    → has (getD (removeFrom l x g) h 0) y ≡ (eqb y x && eqb h g ⇒ false ∥ has (getD l h 0) y)
-has-removed l x g y h low = row-written (withoutBit x) false l x g y h low (has-without x (getD l g 0) y)
+has-removed : (l : List ℕ) (x g y h : ℕ) → x < length l
+    → has (getD (removeFrom l x g) y 0) h ≡ (eqb y x && eqb h g ⇒ false ∥ has (getD l y 0) h)
+has-removed l x g y h low = row-written (withoutBit g) false l x g y h low (has-without g (getD l x 0) h)
 
 has-none : (y : ℕ) → has 0 y ≡ false
 unfolding has bit
@@ -70,21 +70,20 @@ row-without : (l : List ℕ) (x h : ℕ) → getD (map (withoutBit x) l) h 0 ≡
 row-without l x h = ap (getD (map (withoutBit x) l) h) (sym (none-without x)) ∙ List·getD-map (withoutBit x) l h 0
 
 has-cleared : (l : List ℕ) (x y h : ℕ) → x < length l
-    → has (getD (cleared l x) h 0) y ≡ (eqb h x ⇒ false ∥ eqb y x ⇒ false ∥ has (getD l h 0) y)
+    → has (getD (cleared l x) y 0) h ≡ (eqb y x ⇒ false ∥ eqb h x ⇒ false ∥ has (getD l y 0) h)
 has-cleared l x y h low =
-    read-set (λ w. has w y) (map (withoutBit x) l) x h 0 0 (simp length-map low)
-    ∙ rw (has-none y, row-without l x h, has-without x (getD l h 0) y)
+    read-set (λ w. has w h) (map (withoutBit x) l) x y 0 0 (simp length-map low)
+    ∙ rw (has-none h, row-without l x y, has-without x (getD l y 0) h)
 
-has-made : (l : List ℕ) (x g y h : ℕ) → x < length l → g < length l
-    → has (getD (addTo (cleared l x) x g) h 0) y ≡ (eqb y x ⇒ eqb h g ∥ eqb h x ⇒ false ∥ has (getD l h 0) y)
-has-made l x g y h a b =
-    has-added (cleared l x) x g y h (simp (length-set, length-map) b)
-    ∙ rw (has-cleared l x y h a) (go (eqb y x) (eqb h g) (eqb h x) (has (getD l h 0) y))
+has-made : (l : List ℕ) (x g y h : ℕ) → x < length l
+    → has (getD (addTo (cleared l x) x g) y 0) h ≡ (eqb y x ⇒ eqb h g ∥ eqb h x ⇒ false ∥ has (getD l y 0) h)
+has-made l x g y h a =
+    has-added (cleared l x) x g y h (simp (length-set, length-map) a)
+    ∙ rw (has-cleared l x y h a) (go (eqb y x) (eqb h g) (eqb h x) (has (getD l y 0) h))
   where
-    go : (a b c s : Bool) → (a && b ⇒ true ∥ c ⇒ false ∥ a ⇒ false ∥ s) ≡ (a ⇒ b ∥ c ⇒ false ∥ s)
+    go : (a b c s : Bool) → (a && b ⇒ true ∥ a ⇒ false ∥ c ⇒ false ∥ s) ≡ (a ⇒ b ∥ c ⇒ false ∥ s)
     go true true c s = refl
-    go true false true s = refl
-    go true false false s = refl
+    go true false c s = refl
     go false b c s = refl
 
 -- ---- The views
@@ -96,9 +95,9 @@ module _ (p : Policy) (z : Sized p) where
   pub view-made : (x s g : ℕ) → x < 64 → g < 64 → view (made p x s g) ≡ viewMade (view p) x s g
   unfolding made sort stored appointment rule
   view-made x s g a b =
-      ap view (on-table x g (withSorts (withMembers p (addTo (cleared (p .members) x) x g)) (set (p .sorts) x s)) p a b)
+      ap view (on-table x g (withSorts (withMembers p (addTo (cleared (p .memberships) x) x g)) (set (p .sorts) x s)) p a b)
       ∙ view-ext (λ y. sorts y (ℕ-discrete y x))
-      (λ y h. has-made (p .members) x g y h (omega (arith, z .members)) (omega (arith, z .members))) (λ i. refl) (λ i. refl)
+      (λ y h. has-made (p .memberships) x g y h (omega (arith, z .memberships))) (λ i. refl) (λ i. refl)
     where
       sorts : (y : ℕ) → Dec (y ≡ x)
           → (ltb y 64 ⇒ counted (getD (set (p .sorts) x s) y 0) ∥ 0)
@@ -107,7 +106,7 @@ module _ (p : Policy) (z : Sized p) where
       sorts y (no n) = rw (ne-eqb y x n, getD-set-other (p .sorts) x y s 0 n)
 
   -- With another table of members, nothing but what is stored reads otherwise.
-  view-members : (x g : ℕ) (l : List ℕ) (m : ℕ → ℕ → Bool) → x < 64 → g < 64 → ((y h : ℕ) → has (getD l h 0) y ≡ m y h)
+  view-members : (x g : ℕ) (l : List ℕ) (m : ℕ → ℕ → Bool) → x < 64 → g < 64 → ((y h : ℕ) → has (getD l y 0) h ≡ m y h)
       → view (onTable x g ⇒ withMembers p l ∥ p)
       ≡ record { sort = sort p; stored = m; appointment = appointment p; rule = rule p }
   unfolding sort stored appointment rule
@@ -117,13 +116,13 @@ module _ (p : Policy) (z : Sized p) where
   pub view-put : (x g : ℕ) → x < 64 → g < 64 → view (put p x g) ≡ viewPut (view p) x g
   unfolding put stored
   view-put x g a b =
-      view-members x g (addTo (p .members) x g) _ a b (λ y h. has-added (p .members) x g y h (omega (arith, z .members)))
+      view-members x g (addTo (p .memberships) x g) _ a b (λ y h. has-added (p .memberships) x g y h (omega (arith, z .memberships)))
 
   pub view-taken : (x g : ℕ) → x < 64 → g < 64 → view (taken p x g) ≡ viewTaken (view p) x g
   unfolding taken stored
   view-taken x g a b =
-      view-members x g (removeFrom (p .members) x g) _ a b
-      (λ y h. has-removed (p .members) x g y h (omega (arith, z .members)))
+      view-members x g (removeFrom (p .memberships) x g) _ a b
+      (λ y h. has-removed (p .memberships) x g y h (omega (arith, z .memberships)))
 
   pub view-appointed : (i : ℕ) (w : Appointment) → i < 32 → view (appointed p i w) ≡ viewAppointed (view p) i w
   unfolding appointed sort stored appointment rule

@@ -6,7 +6,7 @@ use Prim.Native.Nat.{ℕ, _-_, _^_, _≤_, _<_}
 use native.Mathlib.Nat.{le-refl}
 use native.Mathlib.Omega.{arith}
 use lib.Bits.{bitAnd}
-use lib.Dec.{eqb, ltb}
+use lib.Dec.{eqb}
 use lib.ListN.{getD}
 use Rattle.reach.specs.declared.Policy.{Policy}
 use Rattle.reach.specs.declared.Appointment.{Appointment}
@@ -14,12 +14,12 @@ use Rattle.reach.specs.declared.Place.the-variants.{At, Nothing}
 use Rattle.reach.specs.Words.{bit, has, SetOf}
 use Rattle.reach.specs.Tests.{some, Some, Decides, _⇒_∥_, lowest}
 use Rattle.reach.specs.Tables.{counted, sort, stored, appointment, standing, rule, view}
-use Rattle.reach.specs.Reach.{InUse, User, Target, inUse, isGroup, isUser, isTarget, direct}
+use Rattle.reach.specs.Reach.{InUse, User, Target, inUse, isGroup, isUser, direct}
 use Rattle.reach.specs.Privileges.{HoldsBy, Holds, AdministersBy, Administers, PermitsBy, Permitted, Orphan, administrator, holdsBy}
 use Rattle.reach.specs.Privileges.{holds, administersBy, administers, permitsBy, askable, permitted, permitting, orphaned}
 use Rattle.reach.proofs.Testing.{decides-as, decides-same, decides-and, decides-not, decides-some, decides-eqb, decides-ltb}
 use Rattle.reach.proofs.Testing.{decides-true, some-map, lowest-none, lowest-found, LowestAt, lowest-cases, fails, some-found}
-use Rattle.reach.proofs.WordSets.{set-mask, set-not, set-empty, decides-nonempty, has-is}
+use Rattle.reach.proofs.WordSets.{set-mask, set-not, decides-nonempty}
 use Rattle.reach.proofs.Places.{OwnedAt}
 use Rattle.reach.proofs.Chains.{in-use-below, decides-in-use, under-decides}
 
@@ -28,8 +28,8 @@ pub standing-decides : (w : Appointment) → Decides (standing w) (0 < counted (
 unfolding standing
 standing-decides w = decides-ltb 0 (counted (w .kind))
 
--- Direct membership is asked of the sorts and of the group's row.
-pub direct-of-row : (p : Policy) (x g : ℕ) → inUse p x && isGroup p g && has (getD (p .members) g 0) x ≡ direct p x g
+-- Direct membership is asked of the sorts and of the object's row.
+pub direct-of-row : (p : Policy) (x g : ℕ) → inUse p x && isGroup p g && has (getD (p .memberships) x 0) g ≡ direct p x g
 unfolding direct stored
 direct-of-row p x g = refl
 
@@ -153,34 +153,10 @@ module _ (p : Policy) {objects : ℕ} (o : SetOf objects (InUse (view p))) where
       (some-map (outside 32 (le-refl 32))))
       (orphaned-decides p)
 
-  -- The places below n are enough where they leave no object in use.
-  pub orphan-none : {owned : ℕ} (n : ℕ) → n ≤ 32 → SetOf owned (λ x. Some n (λ i. OwnedAt p i x))
-      → bitAnd objects (2 ^ 64 - 1 - owned) ≡ 0 → false ≡ orphaned p
-  orphan-none n l w z =
-      sym
-      (fails (orphaned p) (orphaned-decides p)
-      (λ s. set-empty (set-mask objects (set-not w)) z (s .place) (outside n l (s .place) (s .at))))
-
 module _ (p : Policy) (u k x : ℕ) where
-  -- Tests of the sets of users and of targets are the rules' own.
-  pub askable-is : {users targets : ℕ} → SetOf users (User (view p)) → SetOf targets (Target (view p)) → (a b : Bool) → a ≡ has users u
-      → b ≡ has targets x → (a && b && ltb k 8) ≡ askable p u k x
-  unfolding askable
-  askable-is s t a b d e =
-      rw (d ∙ has-is s u (isUser p u) (decides-user p u), e ∙ has-is t x (isTarget p x) (decides-eqb (sort p x) 3))
-
   pub permitting-not : askable p u k x ≡ false → Nothing ≡ permitting p u k x
   unfolding permitting
   permitting-not e = rw e
-
-  pub permitting-none : askable p u k x ≡ true → some 64 (permitsBy p u k x) ≡ false → Nothing ≡ permitting p u k x
-  unfolding permitting
-  permitting-none e f = rw e (sym (lowest-none 64 (permitsBy p u k x) f))
-
-  pub permitting-at : (i : ℕ) → askable p u k x ≡ true → i < 64 → some i (permitsBy p u k x) ≡ false → permitsBy p u k x i ≡ true
-      → At i ≡ permitting p u k x
-  unfolding permitting
-  permitting-at i e l f g = rw e (sym (lowest-found 64 (permitsBy p u k x) i l f g))
 
   -- Who is permitted it is so by the lowest of the places that permit it.
   pub permitted-lowest : permitted p u k x ≡ true → Some 64 (λ i. (permitting p u k x ≡ At i) × LowestAt 64 (permitsBy p u k x) i)

@@ -18,7 +18,8 @@ use Rattle.reach.specs.Privileges.{owner, Owns}
 use Rattle.reach.proofs.Bits.{bit-none, bit-one-only}
 use Rattle.reach.proofs.Sorts.{counted-known}
 
-repeated {ℓ} : {A : Type ℓ} (d : A) (n i : ℕ) → getD (replicate n d) i d ≡ d
+-- A table of one value holds it everywhere.
+pub repeated {ℓ} : {A : Type ℓ} (d : A) (n i : ℕ) → getD (replicate n d) i d ≡ d
 repeated d zero i = refl
 repeated d (suc n) zero = refl
 repeated d (suc n) (suc i) = repeated d n i
@@ -62,8 +63,10 @@ initial-stored = refl
 
 pub initial-stored-only : (x g : ℕ) → view initial .stored x g ≡ true → (x ≡ 1) × (g ≡ 0)
 unfolding initial stored has
-initial-stored-only x zero e = (bit-one-only 1 x (eqb-true _ _ e), refl)
-initial-stored-only x (suc g) e = absurd (bit-none x (ap (λ (w : ℕ). bit w x) (sym (repeated {A = ℕ} 0 63 g)) ∙ eqb-true _ _ e))
+initial-stored-only zero g e = absurd (bit-none g (eqb-true _ _ e))
+initial-stored-only (suc zero) g e = (refl, bit-one-only 0 g (eqb-true _ _ e))
+initial-stored-only (suc (suc x)) g e =
+    absurd (bit-none g (ap (λ (w : ℕ). bit w g) (sym (repeated {A = ℕ} 0 62 x)) ∙ eqb-true _ _ e))
 
 pub initial-direct : (x g : ℕ) → Direct (view initial) x g → (x ≡ 1) × (g ≡ 0)
 initial-direct x g d = initial-stored-only x g (d .is-stored)

@@ -8,7 +8,7 @@ pub mod Frames
 pub mod OneBit
 pub mod AsRead
 pub mod Sizes
-pub mod TableByTable
+pub mod Past
 pub mod Sorts
 pub mod Founding
 pub mod Carrying
@@ -16,7 +16,8 @@ pub mod Appointing
 pub mod Chains
 pub mod Places
 pub mod Deciding
-pub mod Asking
-pub mod Seeking
-pub mod Closures
+pub mod Gathering
+pub mod Upward
+pub mod Settling
 pub mod Unions
+pub mod Meeting

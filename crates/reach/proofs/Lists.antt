@@ -5,6 +5,7 @@ use mathlib.Core.List.{List, [], _∷_, map}
 use Prim.Native.Nat.{ℕ, zero, suc, _+_, _≤_}
 use native.Mathlib.Nat.{le-of-suc-le-suc, not-suc-le-zero}
 use native.Mathlib.Numerals.{add-one}
+use native.Mathlib.Omega.{arith}
 use lib.ListN.{length, getD, set, length-map}
 
 pub length-mapped : (X Y : Type 0) (f : X → Y) (l : List X) (n : ℕ) → length (map f l) ≡ n → length l ≡ n
@@ -41,3 +42,9 @@ map-to-all f (suc n) (a ∷ l) h = ap (λ (t : List ℕ). f a ∷ t) (map-to-all
 pub map-agree : (f g : ℕ → ℕ) (l : List ℕ) → ((i : ℕ) → f (getD l i 0) ≡ g (getD l i 0)) → map f l ≡ map g l
 map-agree f g [] e = refl
 map-agree f g (a ∷ l) e = ap₂ _∷_ (e 0) (map-agree f g l (λ i. e (suc i)))
+
+-- A store past the end changes nothing.
+pub set-past {ℓ} : {A : Type ℓ} (l : List A) (i : ℕ) (a : A) → length l ≤ i → set l i a ≡ l
+set-past [] i a e = refl
+set-past (x ∷ l) zero a e = absurd (omega (arith, e))
+set-past (x ∷ l) (suc i) a e = ap (λ t. x ∷ t) (set-past l i a (omega (arith, e)))

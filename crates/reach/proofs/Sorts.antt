@@ -1,6 +1,6 @@
 -- The sort of an object as it counts, against the byte that is stored: on the table the two agree on 1, 2 and 3, and whatever is in
 -- use has one of these. By the two cases of `counted`.
-use mathlib.Core.Path.{_≡_, refl, sym, ap, _∙_, subst}
+use mathlib.Core.Path.{_≡_, refl, sym, ap, _∙_}
 use mathlib.Core.List.{List}
 use mathlib.Core.Bool.{Bool, true, false}
 use mathlib.Core.Logic.{_⊎_, inl, inr, ⊎-elim}
@@ -11,10 +11,8 @@ use lib.Dec.{eqb, leb, ltb}
 use lib.ListN.{getD}
 use borrow.Author.Tests.{eqb-true, eq-eqb, le-leb, leb-true, lt-ltb}
 use Rattle.reach.specs.declared.Policy.{Policy}
-use Rattle.reach.specs.declared.Masks.{Masks}
-use Rattle.reach.specs.Surveys.{MasksOf}
 use Rattle.reach.specs.Tests.{_⇒_∥_, Decides}
-use Rattle.reach.specs.Tables.{counted, sort, view}
+use Rattle.reach.specs.Tables.{counted, sortIn, sort, view}
 use Rattle.reach.specs.Reach.{InUse, Group, User, Target}
 use Rattle.reach.specs.Words.{SetOf}
 use Rattle.reach.proofs.Chains.{in-use-below}
@@ -35,6 +33,11 @@ counted-cases n = go (leb n 3) refl
 
 pub counted-le : (n : ℕ) → counted n ≤ 3
 counted-le n = ⊎-elim (λ e. omega (arith, e)) (λ w. omega (arith, w .0, w .1)) (counted-cases n)
+
+-- The sort of an object is read of the table of sorts alone.
+pub sort-is : (p : Policy) (x : ℕ) → sortIn (p .sorts) x ≡ sort p x
+unfolding sort
+sort-is p x = refl
 
 pub sort-at : (p : Policy) (x : ℕ) → x < 64 → sort p x ≡ counted (getD (p .sorts) x 0)
 unfolding sort
@@ -89,17 +92,3 @@ in-use-of-sort p x w = ⊎-elim (λ v. ⊎-elim (λ e. omega (arith, e)) (λ e. 
 sort-same : (p n : Policy) → n .sorts ≡ p .sorts → (x : ℕ) → sort n x ≡ sort p x
 unfolding sort
 sort-same p n e x = rw e
-
--- A policy with the same sorts has the same masks.
-pub masks-same : (p n : Policy) {m : Masks} → n .sorts ≡ p .sorts → MasksOf p m → MasksOf n m
-masks-same p n e k =
-    record {
-      objects =
-          set-as
-          (k .objects)
-          (λ x i. subst (λ (s : ℕ). 0 < s) (sym (sort-same p n e x)) i)
-          (λ x i. subst (λ (s : ℕ). 0 < s) (sort-same p n e x) i);
-      groups = set-as (k .groups) (λ x s. sort-same p n e x ∙ s) (λ x s. sym (sort-same p n e x) ∙ s);
-      users = set-as (k .users) (λ x s. sort-same p n e x ∙ s) (λ x s. sym (sort-same p n e x) ∙ s);
-      targets = set-as (k .targets) (λ x s. sort-same p n e x ∙ s) (λ x s. sym (sort-same p n e x) ∙ s);
-    }

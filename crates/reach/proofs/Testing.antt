@@ -5,7 +5,7 @@ use mathlib.Core.Bool.{Bool, true, false, not, _&&_, _||_, true≢false, false�
 use mathlib.Core.Logic.{_⊎_, inl, inr, ⊎-elim}
 use Prim.Native.Nat.{ℕ, zero, suc, _+_, _≤_, _<_}
 use native.Mathlib.Nat.{not-suc-le-zero}
-use native.Mathlib.Decide.{decLt}
+use native.Mathlib.Decide.{decLt, ℕ-discrete}
 use native.Mathlib.Numerals.{add-one}
 use native.Mathlib.Omega.{arith}
 use lib.Dec.{eqb, ltb}
@@ -36,6 +36,13 @@ refuted d e p = true≢false (sym (d .complete p) ∙ e)
 pub fails : {P : Type 0} (t : Bool) → Decides t P → (P → ⊥) → t ≡ false
 fails true d n = absurd (n (d .sound refl))
 fails false d n = refl
+
+-- A test that fails decides what is not so.
+pub decides-none : {P : Type 0} → (P → ⊥) → Decides false P
+decides-none n = record { sound = λ e. absurd (false≢true e); complete = λ h. absurd (n h) }
+
+pub decides-some-at : {n : ℕ} {P : ℕ → Type 0} (i : ℕ) → i < n → P i → Decides true (Some n P)
+decides-some-at i l h = record { sound = λ e. record { place = i; low = l; at = h }; complete = λ w. refl }
 
 pub decides-true : (t : Bool) → Decides t (t ≡ true)
 decides-true t = record { sound = λ e. e; complete = λ e. e }
@@ -88,6 +95,20 @@ pub some-map : {n : ℕ} {P Q : ℕ → Type 0} → ((i : ℕ) → P i → Q i) 
 some-map f w = record { place = w .place; low = w .low; at = f (w .place) (w .at) }
 
 -- The test of some number decides that there is one; it is enough that the tests decide below the bound.
+-- None below 0, and none below n + 1 if there is none below n nor at n.
+pub some-not-start : {P : ℕ → Type 0} → Some 0 P → ⊥
+some-not-start w = omega (arith, w .low)
+
+pub some-not-next : {n : ℕ} {P : ℕ → Type 0} → (Some n P → ⊥) → (P n → ⊥) → Some (n + 1) P → ⊥
+some-not-next {n} {P} a b w =
+    elim (ℕ-discrete (w .place) n) [
+      | yes e ↦ b (subst P e (w .at))
+      | no e ↦ a (record { place = w .place; low = omega (arith, w .low, e); at = w .at })
+    ]
+
+pub some-not-end : (m : ℕ) {n : ℕ} {P : ℕ → Type 0} → m ≤ n → (Some n P → ⊥) → Some m P → ⊥
+some-not-end m l a w = a (record { place = w .place; low = omega (arith, w .low, l); at = w .at })
+
 pub decides-some : (n : ℕ) (t : ℕ → Bool) (P : ℕ → Type 0) → ((i : ℕ) → i < n → Decides (t i) (P i)) → Decides (some n t) (Some n P)
 unfolding some
 decides-some zero t P d = record { sound = λ e. absurd (false≢true e); complete = λ w. absurd (not-suc-le-zero (w .low)) }

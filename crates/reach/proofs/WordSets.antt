@@ -1,7 +1,7 @@
 -- Words as sets: what `0`, `1 << i`, `|`, `&` and `!` are as sets, and a loop that gathers a set number by number. A word's bits
 -- decide what is in it, so each law is one of bits.
 use mathlib.Core.Path.{_≡_, refl, sym, ap, _∙_, subst}
-use mathlib.Core.Bool.{Bool, true, false, not, true≢false, false≢true}
+use mathlib.Core.Bool.{Bool, true, false, not, false≢true}
 use mathlib.Core.Logic.{_⊎_, inl, inr, ⊎-elim}
 use Prim.Native.Nat.{ℕ, _+_, _-_, _*_, _%_, _^_, _≤_, _<_, min}
 use native.Mathlib.Nat.{mod-lt, lt-of-le-of-lt, eq-or-lt-of-le, le-of-suc-le-suc, not-suc-le-zero}
@@ -11,13 +11,13 @@ use native.Mathlib.Omega.{arith}
 use lib.Dec.{lit<, eqb}
 use lib.Pow.{pow-pos, ones-sub-lt}
 use lib.Bits.{bitAnd, bitOr, or-lt, and-le-r}
-use lib.Count.{trailingZeros, leadingZeros}
-use borrow.Author.Tests.{eqb-true, eqb-false, eq-eqb, not-true, not-false}
+use lib.Count.{trailingZeros}
+use borrow.Author.Tests.{eqb-true, eqb-false, eq-eqb}
 use Rattle.reach.specs.Words.{bit, has, SetOf}
 use Rattle.reach.specs.Tests.{Some, Decides}
 use Rattle.reach.proofs.Testing.{decides-eqb}
 use Rattle.reach.proofs.Bits.{bit-le, bit-two, bit-clash, bit-none, bit-high, or-bit, bit-of-or, bit-and, bit-not}
-use Rattle.reach.proofs.Bits.{one-shl, one-shl-half, bit-low-half, bit-high-half, bit-one, bit-one-only, lowest-bit, highest-bit}
+use Rattle.reach.proofs.Bits.{one-shl, one-shl-half, bit-low-half, bit-high-half, bit-one, bit-one-only, lowest-bit}
 
 -- A word is the set of its bits.
 pub set-bits : (s : ℕ) → s < 2 ^ 64 → SetOf s (λ x. bit s x ≡ 1)
@@ -84,10 +84,6 @@ module _ {P : ℕ → Type 0} where
   pub set-lowest : {s : ℕ} → SetOf s P → (s ≡ 0 → ⊥) → (trailingZeros 64 s < 64) × P (trailingZeros 64 s)
   set-lowest {s} p n = let r = lowest-bit 64 s n (p .word) in (r .0, p .only (trailingZeros 64 s) (r .1))
 
-  -- The highest number.
-  pub set-highest : {s : ℕ} → SetOf s P → (s ≡ 0 → ⊥) → (leadingZeros 64 s < 64) × P (63 - leadingZeros 64 s)
-  set-highest {s} p n = let r = highest-bit 64 s n (p .word) in (r .0, p .only (63 - leadingZeros 64 s) (r .1))
-
   -- The test of a set's member decides what the set is of.
   pub decides-has : {s : ℕ} → SetOf s P → (x : ℕ) → Decides (has s x) (P x)
   unfolding has
@@ -106,14 +102,6 @@ module _ {P : ℕ → Type 0} where
 pub has-decides : (s x : ℕ) → Decides (has s x) (bit s x ≡ 1)
 unfolding has
 has-decides s x = decides-eqb (bit s x) 1
-
--- What an answer says that was `!has(s, x)`.
-module _ {P : ℕ → Type 0} {s x : ℕ} where
-  pub set-outside : (b : Bool) → b ≡ has s x → not b ≡ true → SetOf s P → P x → ⊥
-  set-outside b e n p w = true≢false (sym (decides-has p x .complete w) ∙ sym e ∙ not-true b n)
-
-  pub set-inside : (b : Bool) → b ≡ has s x → not b ≡ false → SetOf s P → P x
-  set-inside b e n p = decides-has p x .sound (sym e ∙ not-false b n)
 
 -- Whether a set is not empty.
 pub decides-nonempty : {P : ℕ → Type 0} {s : ℕ} → SetOf s P → Decides (not (eqb s 0)) (Some 64 P)

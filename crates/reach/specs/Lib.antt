@@ -8,3 +8,4 @@ pub mod Privileges
 pub mod Successors
 pub mod Changes
 pub mod Surveys
+pub mod Asking

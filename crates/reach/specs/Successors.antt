@@ -21,54 +21,40 @@ withoutBit x w = has w x ⇒ w - 2 ^ x ∥ w
 
 -- The policy with another table in the place of one of its own.
 abbrev pub withSorts : Policy → List ℕ → Policy
-withSorts p l = record { sorts = l; members = p .members; appointments = p .appointments; rules = p .rules }
+withSorts p l = record { sorts = l; memberships = p .memberships; appointments = p .appointments; rules = p .rules }
 
 abbrev pub withMembers : Policy → List ℕ → Policy
-withMembers p l = record { sorts = p .sorts; members = l; appointments = p .appointments; rules = p .rules }
+withMembers p l = record { sorts = p .sorts; memberships = l; appointments = p .appointments; rules = p .rules }
 
 abbrev pub withAppointments : Policy → List Appointment → Policy
-withAppointments p l = record { sorts = p .sorts; members = p .members; appointments = l; rules = p .rules }
+withAppointments p l = record { sorts = p .sorts; memberships = p .memberships; appointments = l; rules = p .rules }
 
 abbrev pub withRules : Policy → List AccessRule → Policy
-withRules p l = record { sorts = p .sorts; members = p .members; appointments = p .appointments; rules = l }
+withRules p l = record { sorts = p .sorts; memberships = p .memberships; appointments = p .appointments; rules = l }
 
 abbrev pub onTable : ℕ → ℕ → Bool
 onTable x g = ltb x 64 && ltb g 64
 
 -- [01:who.6] "They add or remove that one direct membership."
 abbrev pub addTo : List ℕ → ℕ → ℕ → List ℕ
-addTo l x g = set l g (withBit x (getD l g 0))
+addTo l x g = set l x (withBit g (getD l x 0))
 
 abbrev pub removeFrom : List ℕ → ℕ → ℕ → List ℕ
-removeFrom l x g = set l g (withoutBit x (getD l g 0))
-
--- The members with x put directly into g; past the table nothing changes.
-abbrev pub putInto : List ℕ → ℕ → ℕ → List ℕ
-putInto l x g = onTable x g ⇒ addTo l x g ∥ l
-
--- The members with x taken out of g; past the table nothing changes.
-abbrev pub takenFrom : List ℕ → ℕ → ℕ → List ℕ
-takenFrom l x g = onTable x g ⇒ removeFrom l x g ∥ l
+removeFrom l x g = set l x (withoutBit g (getD l x 0))
 
 unfoldable pub put : Policy → ℕ → ℕ → Policy
-put p x g = onTable x g ⇒ withMembers p (addTo (p .members) x g) ∥ p
+put p x g = onTable x g ⇒ withMembers p (addTo (p .memberships) x g) ∥ p
 
 unfoldable pub taken : Policy → ℕ → ℕ → Policy
-taken p x g = onTable x g ⇒ withMembers p (removeFrom (p .members) x g) ∥ p
+taken p x g = onTable x g ⇒ withMembers p (removeFrom (p .memberships) x g) ∥ p
 
 -- [01:who.3] "The new object is directly in it." [01:who.4] "Every other membership stored for the new number, on either side, is cleared."
 abbrev pub cleared : List ℕ → ℕ → List ℕ
 cleared l x = set (map (withoutBit x) l) x 0
 
--- The members with x made in g, and the sorts with x made of a sort; past the table nothing changes.
-abbrev pub madeIn : List ℕ → ℕ → ℕ → List ℕ
-madeIn l x g = onTable x g ⇒ addTo (cleared l x) x g ∥ l
-
-abbrev pub sortedAs : List ℕ → ℕ → ℕ → ℕ → List ℕ
-sortedAs l x k g = onTable x g ⇒ set l x k ∥ l
-
+-- The object made, of its sort and in its group; past the table nothing changes.
 unfoldable pub made : Policy → ℕ → ℕ → ℕ → Policy
-made p x k g = onTable x g ⇒ withSorts (withMembers p (addTo (cleared (p .members) x) x g)) (set (p .sorts) x k) ∥ p
+made p x k g = onTable x g ⇒ withSorts (withMembers p (addTo (cleared (p .memberships) x) x g)) (set (p .sorts) x k) ∥ p
 
 -- APPOINT and DISMISS fill and empty a place; [01:keeps.19] a place "that a request empties, holds zeros". `set` past the end of a list
 -- changes nothing.

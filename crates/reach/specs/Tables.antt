@@ -1,7 +1,7 @@
 -- What the board keeps: the policy (document 01's sheet), as it counts whatever value it has, and the founding.
 use mathlib.Core.Path.{_≡_}
 use mathlib.Core.Bool.{Bool, false}
-use mathlib.Core.List.{_∷_}
+use mathlib.Core.List.{List, _∷_}
 use Prim.Native.Nat.{ℕ}
 use lib.Dec.{leb, ltb}
 use lib.ListN.{length, getD, replicate}
@@ -17,13 +17,16 @@ counted n = leb n 3 ⇒ n ∥ 0
 
 -- [01:keeps.6] "64 objects, numbers 0 to 63." [01:keeps.7] "Sort 0 empty, 1 group (the thesis's domain), 2 member, 3 gear."
 -- A number past the table is as an empty object (D3).
-unfoldable pub sort : Policy → ℕ → ℕ
-sort p x = ltb x 64 ⇒ counted (getD (p .sorts) x 0) ∥ 0
+abbrev pub sortIn : List ℕ → ℕ → ℕ
+sortIn sorts x = ltb x 64 ⇒ counted (getD sorts x 0) ∥ 0
 
--- [01:keeps.8] "With them, which object is directly in which group.": row g of the table is the set of what is stored as
--- directly in g. Whether a stored membership counts is said in Reach.
+unfoldable pub sort : Policy → ℕ → ℕ
+sort p x = sortIn (p .sorts) x
+
+-- [01:keeps.8] "With them, which object is directly in which group.": row x of the table is the set of the groups that x
+-- is stored as directly in. Whether a stored membership counts is said in Reach.
 unfoldable pub stored : Policy → ℕ → ℕ → Bool
-stored p x g = has (getD (p .members) g 0) x
+stored p x g = has (getD (p .memberships) x 0) g
 
 -- [01:keeps.11] "32 warrants, places 0 to 31: empty, or kind (1 owner, 2 manager, 3 administrator), holder (a member), group A,
 -- group B." [01:keeps.19] "A place that is empty at the founding, or that a request empties, holds zeros."
@@ -58,7 +61,7 @@ view p = record { sort = sort p; stored = stored p; appointment = appointment p;
 -- The tables have their sizes, as those of every policy that the program holds.
 pub record Sized (p : Policy) : Type 0 where
   pub sorts : length (p .sorts) ≡ 64
-  pub members : length (p .members) ≡ 64
+  pub memberships : length (p .memberships) ≡ 64
   pub appointments : length (p .appointments) ≡ 32
   pub rules : length (p .rules) ≡ 64
 
@@ -68,7 +71,7 @@ unfoldable pub initial : Policy
 initial =
     record {
       sorts = 1 ∷ 2 ∷ replicate 62 0;
-      members = 2 ∷ replicate 63 0;
+      memberships = 0 ∷ 1 ∷ replicate 62 0;
       appointments = record { kind = 1; holder = 1; a = 0; b = 0 } ∷ replicate 31 noAppointment;
       rules = replicate 64 noRule;
     }

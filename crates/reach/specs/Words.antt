@@ -5,6 +5,7 @@ use mathlib.Core.List.{List}
 use Prim.Native.Nat.{ℕ, _/_, _%_, _^_, _<_}
 use lib.Dec.{eqb}
 use lib.ListN.{length, getD}
+use Rattle.reach.specs.Tests.{Some}
 
 -- Bit x of the word s, 0 or 1.
 unfoldable pub bit : ℕ → ℕ → ℕ
@@ -19,6 +20,10 @@ pub record SetOf (s : ℕ) (P : ℕ → Type 0) : Type 0 where
   pub word : s < 2 ^ 64
   pub only : (x : ℕ) → bit s x ≡ 1 → P x
   pub all : (x : ℕ) → P x → bit s x ≡ 1
+
+-- The sets a and b share a number.
+abbrev pub Meet : ℕ → ℕ → Type 0
+Meet a b = Some 64 (λ x. (bit a x ≡ 1) × (bit b x ≡ 1))
 
 -- A list of n words: word i, as a set, has exactly the numbers x of which P i x holds.
 pub record TableOf (n : ℕ) (l : List ℕ) (P : ℕ → ℕ → Type 0) : Type 0 where

@@ -1,27 +1,25 @@
 // Reach and privileges: the policy (document 01's sheet), who is under which group, who holds what, and the policy after each
 // accepted change. Nothing here knows a byte of a request or a refusal's number.
+mod appointments;
+mod climbing;
 mod objects;
-mod privileges;
 mod questions;
+mod rounds;
+mod ruling;
 mod sets;
 mod successors;
-mod surveys;
-mod under;
+mod surveying;
 
+pub use appointments::covers_pair;
+pub use appointments::posts_of;
+pub use climbing::climb;
 pub use objects::appointment_at;
 pub use objects::row;
 pub use objects::rule_at;
-pub use privileges::administered;
-pub use privileges::governed;
-pub use privileges::held;
-pub use privileges::orphaned;
-pub use privileges::permitting;
+pub use objects::sort_in;
 pub use sets::has;
-pub use successors::appointed_at;
-pub use successors::taken_from;
-pub use surveys::closure;
-pub use under::masks_of;
-pub use under::search;
+pub use sets::just;
+pub use sets::only_if;
 
 // Document 01's warrant: kind 1 owner, 2 manager, 3 administrator; any other kind is an empty place.
 pub struct Appointment {
@@ -39,10 +37,11 @@ pub struct AccessRule {
     pub operations: u8,
 }
 
-// Document 01's sheet. Row g of members is the set of what is stored as directly in g: bit x is object x. Any value is legal.
+// Document 01's sheet. Row x of memberships is the set of the groups that x is stored as directly in: bit g is group g.
+// Any value is legal.
 pub struct Policy {
     pub sorts: [u8; 64],
-    pub members: [u64; 64],
+    pub memberships: [u64; 64],
     pub appointments: [Appointment; 32],
     pub rules: [AccessRule; 64],
 }
@@ -61,14 +60,8 @@ pub struct Masks {
     pub targets: u64,
 }
 
-// What is worked out of a policy once: its masks, and for each object g the set of what is under g.
-pub struct Survey {
-    pub masks: Masks,
-    pub closure: [u64; 64],
-}
-
-// What has been asked of one object: of which groups, and which of them it is under.
-pub struct Asked {
-    pub asked: u64,
-    pub above: u64,
+// What a user is appointed over: the As of his owner's appointments, and of his manager's, as sets.
+pub struct Posts {
+    pub owner: u64,
+    pub manager: u64,
 }

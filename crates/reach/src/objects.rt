@@ -1,7 +1,7 @@
 // Objects and places: what a policy holds at a number, as it counts.
 ghost use mathlib.Core.Path.{_≡_};
 ghost use lib.ListN.{getD};
-ghost use Rattle.reach.specs.Tables.{counted, sort, stored, noAppointment, standing, noRule, initial};
+ghost use Rattle.reach.specs.Tables.{counted, sortIn, sort, stored, noAppointment, standing, noRule, initial};
 ghost use Rattle.reach.specs.Reach.{inUse, isGroup, isUser, isTarget, direct};
 use crate::AccessRule;
 use crate::Appointment;
@@ -13,6 +13,14 @@ fn counted(n: u8) -> u8
     ensures { λ r. ⌜ r ≡ counted n ⌝ }
 {
     if n <= 3 { n } else { 0 }
+}
+
+// The sort of x by the lent table, as it counts; past the end of the table it is empty.
+pub fn sort_in(sorts: &[u8; 64], x: u8) -> u8
+    ensures { λ r. ⌜ r ≡ sortIn (now (sorts .entry)) x ⌝ }
+{
+    let i = x as usize;
+    if i < 64 { counted(sorts[i]) } else { 0 }
 }
 
 // Row g; past the end of the table there is nothing.
@@ -71,7 +79,7 @@ impl Policy {
     {
         let mut p = Policy {
             sorts: [0u8; 64],
-            members: [0u64; 64],
+            memberships: [0u64; 64],
             appointments: [Appointment {
                 kind: 0,
                 holder: 0,
@@ -87,7 +95,7 @@ impl Policy {
         };
         p.sorts[0] = 1;
         p.sorts[1] = 2;
-        p.members[0] = 2;
+        p.memberships[1] = 1;
         p.appointments[0] = Appointment {
             kind: 1,
             holder: 1,
@@ -137,9 +145,9 @@ impl Policy {
     pub fn stored(self, x: u8, g: u8) -> bool
         ensures { λ r. ⌜ r ≡ stored self x g ⌝ }
     {
-        let i = g as usize;
+        let i = x as usize;
         if i < 64 {
-            has(self.members[i], x)
+            has(self.memberships[i], g)
         } else {
             false
         }

@@ -1,49 +1,46 @@
-// A policy answers its questions itself: what a user owns, manages and administers, and what he is permitted.
+// A policy answers its questions itself: what a user owns, manages and administers, and what he is permitted. What is asked of a named
+// object climbs from it; what is asked of every object at once goes by rounds over the rows.
 ghost use mathlib.Core.Path.{_≡_};
-ghost use mathlib.Core.Bool.{true};
-ghost use Rattle.reach.specs.Words.{SetOf, bit};
+ghost use Rattle.reach.specs.Words.{SetOf};
 ghost use Rattle.reach.specs.Tables.{view};
-ghost use Rattle.reach.specs.Reach.{Under};
 ghost use Rattle.reach.specs.Privileges.{Owns, Manages, Administers, Permitted};
 ghost use Rattle.reach.specs.Privileges.{owns, manages, administers, permitting, orphaned};
-ghost use Rattle.reach.specs.Surveys.{Whose};
-use crate::AccessRule;
-use crate::Masks;
+ghost use Rattle.reach.specs.Asking.{PostsOf};
 use crate::Place;
 use crate::Policy;
-use crate::privileges::administered;
-use crate::privileges::held;
-use crate::privileges::orphaned;
-use crate::privileges::permitting;
-use crate::sets::has;
-use crate::under::search;
-
-// All x such that the rule permits u operation k on x.
-fn permitted_by(members: &[u64; 64], m: Masks, rule: AccessRule, u: u8, k: u8) -> u64
-    ensures { λ r. ⌜ Whose (now (members .entry)) m (λ p.
-        SetOf r (λ x. ((rule .used ≡ true) × (bit (rule .operations) k ≡ 1)) × (Under (view p) u (rule .users) ×
-        Under (view p) x (rule .targets)))) ⌝ }
-{
-    if !rule.used {
-        return 0;
-    }
-    if !has(rule.operations as u64, k) {
-        return 0;
-    }
-    if !has(search(members, m, rule.users), u) {
-        return 0;
-    }
-    search(members, m, rule.targets)
-}
+use crate::Posts;
+use crate::appointments::covers_pair;
+use crate::appointments::owned_from;
+use crate::appointments::partners_of;
+use crate::appointments::posts_of;
+use crate::climbing::climb;
+use crate::objects::sort_in;
+use crate::rounds::descend;
+use crate::ruling::covering;
+use crate::ruling::granted_over;
 
 impl Policy {
+    // What u is appointed over, as an owner and as a manager: nothing, if he is no user.
+    pub fn posts(self, u: u8) -> Posts
+        ensures { λ r. ⌜ PostsOf (view self) u r ⌝ }
+    {
+        if sort_in(&self.sorts, u) != 2 {
+            return Posts {
+                owner: 0,
+                manager: 0,
+            };
+        }
+        let appointments = self.appointments;
+        posts_of(appointments, u)
+    }
+
     // All that u owns.
     pub fn owned(self, u: u8) -> u64
         ensures { λ r. ⌜ SetOf r (λ x. Owns (view self) u x) ⌝ }
     {
         let m = self.masks();
-        let appointments = self.appointments;
-        held(&self.members, m, appointments, 1, u)
+        let posts = self.posts(u);
+        descend(&self.memberships, m, posts.owner)
     }
 
     // All that u manages.
@@ -51,68 +48,93 @@ impl Policy {
         ensures { λ r. ⌜ SetOf r (λ x. Manages (view self) u x) ⌝ }
     {
         let m = self.masks();
-        let appointments = self.appointments;
-        held(&self.members, m, appointments, 2, u)
+        let posts = self.posts(u);
+        descend(&self.memberships, m, posts.manager)
     }
 
     // Whether u owns x.
     pub fn owns(self, u: u8, x: u8) -> bool
         ensures { λ r. ⌜ r ≡ owns self u x ⌝ }
     {
-        has(self.owned(u), x)
+        if sort_in(&self.sorts, u) != 2 {
+            return false;
+        }
+        let over = climb(&self.sorts, &self.memberships, x);
+        let appointments = self.appointments;
+        let posts = posts_of(appointments, u);
+        posts.owner & over != 0
     }
 
     // Whether u manages x.
     pub fn manages(self, u: u8, x: u8) -> bool
         ensures { λ r. ⌜ r ≡ manages self u x ⌝ }
     {
-        has(self.managed(u), x)
+        if sort_in(&self.sorts, u) != 2 {
+            return false;
+        }
+        let over = climb(&self.sorts, &self.memberships, x);
+        let appointments = self.appointments;
+        let posts = posts_of(appointments, u);
+        posts.manager & over != 0
     }
 
     // All b such that u administers the pair (a, b).
     pub fn administered(self, u: u8, a: u8) -> u64
         ensures { λ r. ⌜ SetOf r (λ b. Administers (view self) u a b) ⌝ }
     {
+        if sort_in(&self.sorts, u) != 2 {
+            return 0;
+        }
         let m = self.masks();
+        let over = climb(&self.sorts, &self.memberships, a);
         let appointments = self.appointments;
-        administered(&self.members, m, appointments, u, a)
+        let partners = partners_of(appointments, u, over);
+        descend(&self.memberships, m, partners)
     }
 
     // Whether u administers the pair (a, b).
     pub fn administers(self, u: u8, a: u8, b: u8) -> bool
         ensures { λ r. ⌜ r ≡ administers self u a b ⌝ }
     {
-        has(self.administered(u, a), b)
+        if sort_in(&self.sorts, u) != 2 {
+            return false;
+        }
+        let first = climb(&self.sorts, &self.memberships, a);
+        let second = climb(&self.sorts, &self.memberships, b);
+        let appointments = self.appointments;
+        covers_pair(appointments, u, first, second)
     }
 
     // The targets on which u is permitted operation k.
     pub fn permitted(self, u: u8, k: u8) -> u64
         ensures { λ r. ⌜ SetOf r (λ x. Permitted (view self) u k x) ⌝ }
     {
-        let m = self.masks();
-        if !has(m.users, u) {
+        if sort_in(&self.sorts, u) != 2 {
             return 0;
         }
         if 8 <= k {
             return 0;
         }
+        let m = self.masks();
+        let over = climb(&self.sorts, &self.memberships, u);
         let rules = self.rules;
-        let mut set: u64 = 0;
-        let mut i: usize = 0;
-        while i < 64 {
-            set |= permitted_by(&self.members, m, rules[i], u, k);
-            i += 1;
-        }
-        set & m.targets
+        let granted = granted_over(rules, k, over);
+        descend(&self.memberships, m, granted) & m.targets
     }
 
     // The lowest place of a rule by which u is permitted operation k on x, or none.
     pub fn permitting(self, u: u8, k: u8, x: u8) -> Place
         ensures { λ r. ⌜ r ≡ permitting self u k x ⌝ }
     {
-        let m = self.masks();
+        let user = sort_in(&self.sorts, u);
+        let target = sort_in(&self.sorts, x);
+        if !((user == 2) & (target == 3) & (k < 8)) {
+            return Place::Nothing;
+        }
+        let users = climb(&self.sorts, &self.memberships, u);
+        let targets = climb(&self.sorts, &self.memberships, x);
         let rules = self.rules;
-        permitting(&self.members, m, rules, u, k, x)
+        covering(rules, k, users, targets)
     }
 
     // Whether some object in use has no owner.
@@ -121,6 +143,8 @@ impl Policy {
     {
         let m = self.masks();
         let appointments = self.appointments;
-        orphaned(&self.members, m, appointments)
+        let from = owned_from(appointments, m.users);
+        let owned = descend(&self.memberships, m, from);
+        m.objects & !owned != 0
     }
 }

@@ -12,6 +12,20 @@ pub fn has(set: u64, x: u8) -> bool
     if x < 64 { (set >> x) & 1 == 1 } else { false }
 }
 
+// The set, if the test passed, and else nothing.
+pub fn only_if(passed: bool, set: u64) -> u64
+    ensures { λ r. ⌜ SetOf r (λ x. (passed ≡ true) × (bit set x ≡ 1)) ⌝ }
+{
+    if passed { set } else { 0 }
+}
+
+// The set of x alone, if it is the number of an object, and else of nothing.
+pub fn just(x: u8) -> u64
+    ensures { λ r. ⌜ SetOf r (λ y. (y < 64) × (x ≡ y)) ⌝ }
+{
+    if x < 64 { 1u64 << x } else { 0 }
+}
+
 // The set of i alone where the test passed, and else of nothing. Its callers go through 32 numbers.
 pub fn mark(passed: bool, i: usize) -> u32
     requires { ⌜ i < 32 ⌝ }

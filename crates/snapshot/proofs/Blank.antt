@@ -3,7 +3,7 @@
 use mathlib.Core.Path.{_≡_, refl, sym, ap, _∙_, subst}
 use mathlib.Core.Bool.{Bool, true, false, _&&_, true≢false, false≢true}
 use mathlib.Core.List.{List}
-use Prim.Native.Nat.{ℕ, zero, suc, _-_, _/_, _%_, _^_, _<_}
+use Prim.Native.Nat.{ℕ, _-_, _/_, _%_, _^_, _<_}
 use native.Mathlib.Nat.{zero-div}
 use native.Mathlib.Decide.{ℕ-discrete}
 use native.Mathlib.Omega.{arith}
@@ -17,6 +17,7 @@ use Rattle.reach.specs.Words.{bit, has}
 use Rattle.reach.specs.Tables.{View, view, Sized, sort, stored, appointment, rule, counted, standing, noAppointment, noRule}
 use Rattle.reach.specs.Successors.{put, appointed, ruled}
 use Rattle.reach.proofs.Sorts.{counted-known}
+use Rattle.reach.proofs.Founding.{repeated}
 use Rattle.snapshot.specs.declared.Entry.{Entry}
 use Rattle.snapshot.specs.declared.Entry.the-variants.{Object, Membership, Appointed, Granted, Empty}
 use Rattle.snapshot.specs.Card.{known, objectAt, membershipAt, appointedAt, grantedAt, Zeroed}
@@ -27,21 +28,16 @@ use Rattle.snapshot.proofs.Storing.{viewStored, view-store}
 
 -- ---- Nothing in it
 
-repeated {ℓ} : {A : Type ℓ} (n i : ℕ) (d : A) → getD (replicate n d) i d ≡ d
-repeated zero i d = refl
-repeated (suc n) zero d = refl
-repeated (suc n) (suc i) d = repeated n i d
-
 pub blank-sized : Sized blank
 unfolding blank
-blank-sized = record { sorts = refl; members = refl; appointments = refl; rules = refl }
+blank-sized = record { sorts = refl; memberships = refl; appointments = refl; rules = refl }
 
 blank-sort : (x : ℕ) → sort blank x ≡ 0
 unfolding blank sort
 blank-sort x = go (ltb x 64)
   where
     go : (t : Bool) → (t ⇒ counted (getD (replicate 64 0) x 0) ∥ 0) ≡ 0
-    go true = ap counted (repeated {A = ℕ} 64 x 0) ∙ counted-known 0 (omega arith)
+    go true = ap counted (repeated {A = ℕ} 0 64 x) ∙ counted-known 0 (omega arith)
     go false = refl
 
 blank-object : (x : ℕ) → objectAt (view blank) x ≡ Empty
@@ -50,15 +46,15 @@ blank-object x = rw (blank-sort x, counted-known 0 (omega arith))
 
 blank-membership : (x g : ℕ) → membershipAt (view blank) x g ≡ Empty
 unfolding blank membershipAt stored has bit
-blank-membership x g = rw (repeated {A = ℕ} 64 g 0, zero-div (2 ^ x))
+blank-membership x g = rw (repeated {A = ℕ} 0 64 x, zero-div (2 ^ g))
 
 blank-appointed : (i : ℕ) → appointedAt (view blank) i ≡ Empty
 unfolding blank appointedAt appointment standing
-blank-appointed i = rw (repeated 32 i noAppointment, counted-known 0 (omega arith))
+blank-appointed i = rw (repeated noAppointment 32 i, counted-known 0 (omega arith))
 
 blank-granted : (i : ℕ) → grantedAt (view blank) i ≡ Empty
 unfolding blank grantedAt rule
-blank-granted i = rw (repeated 64 i noRule)
+blank-granted i = rw (repeated noRule 64 i)
 
 pub blank-none : (k : ℕ) → entry (view blank) k ≡ Empty
 unfolding entry
@@ -74,7 +70,8 @@ blank-none k = go (ltb k 64) (ltb k 4160) (ltb k 4192)
 
 pub blank-zeroed : Zeroed blank
 unfolding blank appointment rule
-blank-zeroed = record { sorts = λ x e. repeated 64 x 0; appointments = λ i e. repeated 32 i noAppointment; rules = λ i e. repeated 64 i noRule }
+blank-zeroed =
+    record { sorts = λ x e. repeated 0 64 x; appointments = λ i e. repeated noAppointment 32 i; rules = λ i e. repeated noRule 64 i }
 
 -- Something in use, stored in a table.
 zeros-kept {ℓ} : {A : Type ℓ} (l : List A) (i : ℕ) (a d : A) (on : A → Bool) → i < length l → on a ≡ true
@@ -124,7 +121,7 @@ Inside v = (x g : ℕ) → v .stored x g ≡ true → (x < 64) × (g < 64)
 
 pub blank-inside : Inside (view blank)
 unfolding blank stored has bit
-blank-inside x g e = absurd (false≢true (rw (repeated {A = ℕ} 64 g 0, zero-div (2 ^ x)) at e))
+blank-inside x g e = absurd (false≢true (rw (repeated {A = ℕ} 0 64 x, zero-div (2 ^ g)) at e))
 
 inside-stored : (v : View) (e : Entry) → valid e ≡ true → Inside v → Inside (viewStored v e)
 inside-stored v (Object x s) h n y k = n y k

@@ -13,7 +13,6 @@ pub mod SoundAlike
 pub mod Theorems
 pub mod Largest
 pub mod Penning
-pub mod Anywhere
 pub mod Rowing
 pub mod Stepping
 pub mod Tried

@@ -20,7 +20,7 @@ use Rattle.snapshot.specs.declared.Entry.{Entry}
 use Rattle.snapshot.specs.declared.Pen.{Pen}
 use Rattle.snapshot.specs.declared.Entry.the-variants.{Object, Empty}
 use Rattle.snapshot.specs.Card.{bytesOf, objectOf, membershipOf, appointedOf, grantedOf, objectAt, membershipAt, appointedAt, grantedAt, from}
-use Rattle.snapshot.specs.Writing.{Penned, fresh}
+use Rattle.snapshot.specs.Writing.{Penned, fresh, rowOf}
 use Rattle.snapshot.proofs.Records.{size-is, size-small}
 use Rattle.snapshot.proofs.Runs.{from-end, from-same, from-more, from-length}
 
@@ -75,11 +75,11 @@ penning-records n o pen e = penning-start 9 n o pen (λ k. bytesOf (e k)) (λ i.
 row-small : (e : ℕ → Entry) → length (from 64 0 (λ g. bytesOf (e g))) ≤ 576
 row-small e = omega (arith, from-length 64 0 9 (λ g. bytesOf (e g)) (λ k a b. record-small (e k)))
 
-pub penning-rows : (n : ℕ) (o : Bytes) (pen : Pen) (members : List ℕ)
-    → Penning 576 n o pen (λ x. from 64 0 (λ g. bytesOf (membershipOf (has (getD members g 0) x) x g))) 0 o pen
-penning-rows n o pen members =
-    penning-start 576 n o pen (λ x. from 64 0 (λ g. bytesOf (membershipOf (has (getD members g 0) x) x g)))
-    (λ x. row-small (λ g. membershipOf (has (getD members g 0) x) x g))
+pub penning-rows : (n : ℕ) (o : Bytes) (pen : Pen) (memberships : List ℕ)
+    → Penning 576 n o pen (λ x. rowOf (getD memberships x 0) x) 0 o pen
+penning-rows n o pen memberships =
+    penning-start 576 n o pen (λ x. rowOf (getD memberships x 0) x)
+    (λ x. row-small (λ g. membershipOf (has (getD memberships x 0) g) x g))
 
 -- ---- The tables of a policy
 
@@ -100,7 +100,8 @@ module _ (p : Policy) where
   pub objects-are : from 64 0 (λ x. bytesOf (objectOf (getD (p .sorts) x 0) x)) ≡ from 64 0 (λ x. bytesOf (objectAt (view p) x))
   objects-are = from-same 64 0 _ _ (λ x a b. ap bytesOf (object-is x (omega arith)))
 
-  pub memberships-are : from 64 0 (λ x. from 64 0 (λ g. bytesOf (membershipOf (has (getD (p .members) g 0) x) x g))) ≡ from 64 0 (λ x. from 64 0 (λ g. bytesOf (membershipAt (view p) x g)))
+  pub memberships-are : from 64 0 (λ x. rowOf (getD (p .memberships) x 0) x)
+      ≡ from 64 0 (λ x. from 64 0 (λ g. bytesOf (membershipAt (view p) x g)))
   unfolding membershipAt stored
   memberships-are = refl
 

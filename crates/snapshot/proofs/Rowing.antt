@@ -3,7 +3,7 @@
 use mathlib.Core.Path.{_≡_, refl, sym, ap, _∙_}
 use mathlib.Core.Bool.{Bool, true, false, true≢false}
 use mathlib.Core.Logic.{_⊎_, inl, inr}
-use mathlib.Core.List.{List, [], _++_, append-nil}
+use mathlib.Core.List.{[], _++_, append-nil}
 use Prim.Native.Nat.{ℕ, zero, suc, _+_, _-_, _*_, _/_, _%_, _^_, _≤_, _<_}
 use native.Mathlib.Nat.{not-suc-le-zero, le-of-suc-le-suc}
 use native.Mathlib.Decide.{decLe}
@@ -11,21 +11,21 @@ use native.Mathlib.Omega.{arith}
 use lib.Dec.{eqb}
 use lib.Bits.{bitAnd}
 use lib.Count.{trailingZeros, under}
-use lib.ListN.{length, getD}
+use lib.ListN.{length}
 use lib.Pow.{pow-pos}
 use borrow.Author.Tests.{eq-eqb, ne-eqb}
 use Rattle.reach.specs.Tests.{_⇒_∥_}
-use Rattle.reach.specs.Words.{bit, has, SetOf}
+use Rattle.reach.specs.Words.{bit, has}
 use Rattle.reach.specs.Successors.{withoutBit}
 use Rattle.reach.proofs.Bits.{bit-at-zero, bit-suc, bit-zero, lowest-bit}
 use Rattle.reach.proofs.OneBit.{has-without, and-is-without}
-use Rattle.reach.proofs.WordSets.{has-decides, has-is, below-next}
+use Rattle.reach.proofs.WordSets.{has-decides, below-next}
 use Rattle.text.specs.Text.{Bytes}
 use Rattle.snapshot.specs.declared.Entry.the-variants.{Membership}
 use Rattle.snapshot.specs.declared.Pen.{Pen}
 use Rattle.snapshot.specs.Card.{bytesOf, membershipOf, from}
 use Rattle.snapshot.specs.Writing.{Penned, rowOf}
-use Rattle.snapshot.proofs.Runs.{from-end, from-more, from-append, from-none, from-same, from-length}
+use Rattle.snapshot.proofs.Runs.{from-end, from-more, from-append, from-none, from-length}
 use Rattle.snapshot.proofs.Penning.{penned-as, penned-then, penned-nothing, record-small}
 
 -- ---- The lowest number of a set
@@ -173,11 +173,3 @@ module _ (groups x : ℕ) where
           below : (k : ℕ) → (k ≡ low) ⊎ (k < low) → (eqb k low ⇒ false ∥ has left k) ≡ false
           below k (inl e) = rw (eq-eqb k low e)
           below k (inr l) = rw (ne-eqb k low (λ e. omega arith)) (has-not left k (lowest-none 64 left k l))
-
--- The set of the groups says what the rows of the members say.
-pub row-is : (members : List ℕ) (groups x : ℕ) → SetOf groups (λ g. (g < 64) × (has (getD members g 0) x ≡ true))
-    → rowOf groups x ≡ from 64 0 (λ g. bytesOf (membershipOf (has (getD members g 0) x) x g))
-row-is members groups x s =
-    from-same 64 0 _ _
-    (λ g l h. ap (λ (t : Bool). bytesOf (membershipOf t x g))
-    (has-is s g (has (getD members g 0) x) (record { sound = λ e. (omega arith, e); complete = λ w. w .1 })))

@@ -23,7 +23,7 @@ use Rattle.snapshot.specs.declared.Entry.{Entry}
 use Rattle.snapshot.specs.declared.Entry.the-variants.{Object, Membership, Appointed, Granted, Empty}
 use Rattle.snapshot.specs.Card.{known, bytesOf}
 use Rattle.snapshot.specs.Loading.{places, numberOf, front, valid, sizeOf, store, blank, loaded, damage, load}
-use Rattle.snapshot.specs.Loading.{sortsWith, membersWith, appointmentsWith, rulesWith}
+use Rattle.snapshot.specs.Loading.{sortsWith, membershipsWith, appointmentsWith, rulesWith}
 use Rattle.snapshot.proofs.Records.{and-both, and-off, size-is, size-large, front-whole, number-low}
 
 -- ---- One step of `load`
@@ -60,8 +60,8 @@ pub record PartRead (kept : Policy) (b : Bytes) (p : Policy) (n at : ℕ) : Type
 
 -- The policy of its four tables.
 abbrev pub tabled : List ℕ → List ℕ → List Appointment → List AccessRule → Policy
-tabled sorts members appointments rules =
-    record { sorts = sorts; members = members; appointments = appointments; rules = rules }
+tabled sorts memberships appointments rules =
+    record { sorts = sorts; memberships = memberships; appointments = appointments; rules = rules }
 
 pub loading-start : (kept : Policy) (b : Bytes)
     → PartRead kept b (tabled (replicate 64 0) (replicate 64 0) (replicate 32 noAppointment) (replicate 64 noRule)) 0 0
@@ -138,12 +138,12 @@ pub granted-low : {e : Entry} {i u t o : ℕ} → e ≡ Granted i u t o → vali
 granted-low {e} {i} q v = ltb-true i 64 (rw q at v)
 
 -- A record that is stored in its table is stored in the policy of the four.
-pub store-tabled : (sorts members : List ℕ) (appointments : List Appointment) (rules : List AccessRule) (e : Entry) → valid e ≡ true
-    → tabled (sortsWith sorts e) (membersWith members e) (appointmentsWith appointments e) (rulesWith rules e)
-    ≡ store (tabled sorts members appointments rules) e
+pub store-tabled : (sorts memberships : List ℕ) (appointments : List Appointment) (rules : List AccessRule) (e : Entry) → valid e ≡ true
+    → tabled (sortsWith sorts e) (membershipsWith memberships e) (appointmentsWith appointments e) (rulesWith rules e)
+    ≡ store (tabled sorts memberships appointments rules) e
 unfolding put appointed ruled
-store-tabled sorts members appointments rules (Object x s) v = rw (set-getD appointments 0 noAppointment, set-getD rules 0 noRule)
-store-tabled sorts members appointments rules (Membership x g) v = rw (v, set-getD appointments (g % 32) noAppointment, set-getD rules g noRule)
-store-tabled sorts members appointments rules (Appointed i k h a b) v = rw (set-getD rules 0 noRule)
-store-tabled sorts members appointments rules (Granted i u t o) v = rw (set-getD appointments 0 noAppointment)
-store-tabled sorts members appointments rules Empty v = absurd (false≢true v)
+store-tabled sorts memberships appointments rules (Object x s) v = rw (set-getD appointments 0 noAppointment, set-getD rules 0 noRule)
+store-tabled sorts memberships appointments rules (Membership x g) v = rw (v, set-getD appointments (g % 32) noAppointment, set-getD rules g noRule)
+store-tabled sorts memberships appointments rules (Appointed i k h a b) v = rw (set-getD rules 0 noRule)
+store-tabled sorts memberships appointments rules (Granted i u t o) v = rw (set-getD appointments 0 noAppointment)
+store-tabled sorts memberships appointments rules Empty v = absurd (false≢true v)

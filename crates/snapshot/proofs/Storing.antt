@@ -60,7 +60,7 @@ view-store p Empty z v = refl
 
 pub store-sized : (p : Policy) (e : Entry) → Sized p → Sized (store p e)
 store-sized p (Object x s) z =
-    record { sorts = simp length-set (z .sorts); members = z .members; appointments = z .appointments; rules = z .rules }
+    record { sorts = simp length-set (z .sorts); memberships = z .memberships; appointments = z .appointments; rules = z .rules }
 store-sized p (Membership x g) z = sized-put p z x g
 store-sized p (Appointed i k h a b) z = sized-appointed p z i _
 store-sized p (Granted i u t o) z = sized-ruled p z i _

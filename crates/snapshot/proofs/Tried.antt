@@ -131,7 +131,7 @@ module _ (p : Policy) (z : Sized p) (x i j : ℕ) (in-x : x < 64) (in-i : i < 32
 -- The tables of the club have their sizes.
 sized-cleared : Sized clubCleared
 unfolding computed
-sized-cleared = record { sorts = refl; members = refl; appointments = refl; rules = refl }
+sized-cleared = record { sorts = refl; memberships = refl; appointments = refl; rules = refl }
 
 -- The founding, littered in the last places of its tables, and the club.
 founding-same : Same (view initial) (view harmless)
@@ -176,7 +176,7 @@ rule-left-unzeroed z = eqb-false 7 0 refl (ap (λ (r : AccessRule). r .users) (z
 -- The club is a policy that a program can hold, and sound, whatever its empty places hold.
 sized-club : Sized club
 unfolding computed
-sized-club = record { sorts = refl; members = refl; appointments = refl; rules = refl }
+sized-club = record { sorts = refl; memberships = refl; appointments = refl; rules = refl }
 
 cleared-sound : Sound (view clubCleared)
 unfolding computed

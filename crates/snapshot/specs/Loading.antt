@@ -79,7 +79,7 @@ unfoldable pub blank : Policy
 blank =
     record {
       sorts = replicate 64 0;
-      members = replicate 64 0;
+      memberships = replicate 64 0;
       appointments = replicate 32 noAppointment;
       rules = replicate 64 noRule;
     }
@@ -107,12 +107,12 @@ sortsWith l (Appointed i k h a b) = l
 sortsWith l (Granted i u t o) = l
 sortsWith l Empty = l
 
-abbrev pub membersWith : List ℕ → Entry → List ℕ
-membersWith l (Object x s) = l
-membersWith l (Membership x g) = addTo l x g
-membersWith l (Appointed i k h a b) = l
-membersWith l (Granted i u t o) = l
-membersWith l Empty = l
+abbrev pub membershipsWith : List ℕ → Entry → List ℕ
+membershipsWith l (Object x s) = l
+membershipsWith l (Membership x g) = addTo l x g
+membershipsWith l (Appointed i k h a b) = l
+membershipsWith l (Granted i u t o) = l
+membershipsWith l Empty = l
 
 -- An appointment and a rule, by the place where it is stored and what stands there after. A record of another kind leaves what stands at a
 -- place; that of a membership is another one with each record, so that no store waits for the one before it.

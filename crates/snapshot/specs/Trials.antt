@@ -26,13 +26,13 @@ foundingRecords =
     ∷ (9 ∷ 0 ∷ 18 ∷ 0 ∷ 0 ∷ 1 ∷ 1 ∷ 0 ∷ 0 ∷ [])
     ∷ []
 
--- A policy with all four kinds of record, with two memberships of one object, and with groups 2 and 3 in each other: row 0 of the members is 1,
--- 2, 3 and 4, row 2 is 3, and row 3 is 2. Its empty places hold zeros.
+-- A policy with all four kinds of record, with two memberships of one object, and with groups 2 and 3 in each other: 1
+-- and 4 are in 0, 2 is in 0 and 3, and 3 is in 0 and 2. Its empty places hold zeros.
 unfoldable pub clubCleared : Policy
 clubCleared =
     record {
       sorts = 1 ∷ 2 ∷ 1 ∷ 1 ∷ 3 ∷ replicate 59 0;
-      members = 30 ∷ 0 ∷ 8 ∷ 4 ∷ replicate 60 0;
+      memberships = 0 ∷ 1 ∷ 9 ∷ 5 ∷ 1 ∷ replicate 59 0;
       appointments =
           set
           (set (replicate 32 noAppointment) 0 (record { kind = 1; holder = 1; a = 0; b = 0 }))

@@ -1,9 +1,7 @@
 -- How the writer goes, for the contracts of its parts. What it answers is said in Answers, with no word of this.
 use mathlib.Core.Path.{_≡_}
-use Prim.Native.Nat.{ℕ, zero, suc, _+_}
-use lib.Bits.{bitOr}
-use lib.ListN.{length, getD}
-use mathlib.Core.List.{List}
+use Prim.Native.Nat.{ℕ, _+_}
+use lib.ListN.{length}
 use Rattle.reach.specs.Words.{has}
 use Rattle.text.specs.Text.{Bytes, Wrote}
 use Rattle.snapshot.specs.declared.Pen.{Pen}
@@ -20,8 +18,3 @@ fresh = record { at = 0; needed = 0 }
 -- The memberships of x in the groups of a set.
 abbrev pub rowOf : ℕ → ℕ → Bytes
 rowOf groups x = from 64 0 (λ g. bytesOf (membershipOf (has groups g) x g))
-
--- All that is stored as directly in one of the first n, as a set.
-unfoldable pub storedAnywhere : ℕ → List ℕ → ℕ
-storedAnywhere zero members = 0
-storedAnywhere (suc n) members = bitOr (storedAnywhere n members) (getD members n 0)

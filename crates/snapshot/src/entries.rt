@@ -1,6 +1,6 @@
 // What stands at a place, and where an entry belongs.
 ghost use mathlib.Core.Path.{_≡_};
-ghost use Rattle.snapshot.specs.Card.{known, objectOf, membershipOf, appointedOf, grantedOf};
+ghost use Rattle.snapshot.specs.Card.{known, objectOf, appointedOf, grantedOf};
 ghost use Rattle.snapshot.specs.Loading.{numberOf, valid, sizeOf};
 use crate::Entry;
 use reach::AccessRule;
@@ -19,16 +19,6 @@ pub fn object_of(s: u8, x: u8) -> Entry
 {
     if known(s) {
         return Entry::Object(x, s);
-    }
-    Entry::Empty
-}
-
-// The membership of x in g, if it is stored.
-pub fn membership_of(stored: bool, x: u8, g: u8) -> Entry
-    ensures { λ r. ⌜ r ≡ membershipOf stored x g ⌝ }
-{
-    if stored {
-        return Entry::Membership(x, g);
     }
     Entry::Empty
 }

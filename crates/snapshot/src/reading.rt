@@ -10,7 +10,7 @@ ghost use Rattle.list.specs.Demand.{Demand3};
 ghost use Rattle.snapshot.specs.declared.Status.the-variants.{Done};
 ghost use Rattle.snapshot.specs.Answers.{Reads};
 ghost use Rattle.snapshot.specs.Loading.{headed, front, valid, blank, damage, load};
-ghost use Rattle.snapshot.specs.Loading.{sortsWith, membersWith, appointmentPlace, appointmentAfter, rulePlace, ruleAfter};
+ghost use Rattle.snapshot.specs.Loading.{sortsWith, membershipsWith, appointmentPlace, appointmentAfter, rulePlace, ruleAfter};
 use crate::Entry;
 use crate::Loaded;
 use crate::Status;
@@ -49,18 +49,18 @@ fn front(b: &[u8]) -> Entry
 }
 
 // Stores an object or a membership in its table; a record of another kind changes neither.
-fn store_low(sorts: &mut [u8; 64], members: &mut [u64; 64], e: Entry)
+fn store_low(sorts: &mut [u8; 64], memberships: &mut [u64; 64], e: Entry)
     requires { ⌜ valid e ≡ true ⌝ }
     ensures { λ r. ⌜ now (sorts .exit) ≡ sortsWith (now (sorts .entry)) e ⌝ }
-    ensures { λ r. ⌜ now (members .exit) ≡ membersWith (now (members .entry)) e ⌝ }
+    ensures { λ r. ⌜ now (memberships .exit) ≡ membershipsWith (now (memberships .entry)) e ⌝ }
 {
     match e {
         Entry::Object(x, s) => {
             sorts[x as usize] = s;
         }
         Entry::Membership(x, g) => {
-            let i = g as usize;
-            members[i] = members[i] | (1u64 << x);
+            let i = x as usize;
+            memberships[i] = memberships[i] | (1u64 << g);
         }
         Entry::Appointed(_, _, _, _, _) => {}
         Entry::Granted(_, _, _, _) => {}
@@ -150,7 +150,7 @@ fn load(kept: Policy, card: &[u8]) -> Loaded
     ensures { λ r. ⌜ r ≡ load kept (length (now (card .entry))) blank 0 (now (card .entry)) ⌝ }
 {
     let mut sorts: [u8; 64] = [0; 64];
-    let mut members: [u64; 64] = [0; 64];
+    let mut memberships: [u64; 64] = [0; 64];
     let mut appointments = [Appointment {
         kind: 0,
         holder: 0,
@@ -174,7 +174,7 @@ fn load(kept: Policy, card: &[u8]) -> Loaded
         if k < n {
             return damaged(kept);
         }
-        store_low(&mut sorts, &mut members, e);
+        store_low(&mut sorts, &mut memberships, e);
         let i = appointment_place(e);
         let w = appointment_after(appointments[i], e);
         appointments[i] = w;
@@ -188,7 +188,7 @@ fn load(kept: Policy, card: &[u8]) -> Loaded
         status: Status::Done,
         policy: Policy {
             sorts,
-            members,
+            memberships,
             appointments,
             rules,
         },

@@ -1,27 +1,23 @@
 // The writer of a card. The same walk over the places measures the file, in a buffer of no bytes, and writes it.
-ghost use mathlib.Core.Bool.{true, false};
 ghost use mathlib.Core.List.{[], _∷_};
 ghost use mathlib.Core.Path.{_≡_};
-ghost use Prim.Native.Nat.{ℕ, _≤_, _<_};
-ghost use lib.ListN.{length, getD};
-ghost use Rattle.reach.specs.Words.{has, SetOf};
+ghost use Prim.Native.Nat.{_≤_, _<_};
+ghost use lib.ListN.{length};
 ghost use Rattle.reach.specs.Tests.{Decides};
 ghost use Rattle.reach.specs.Tables.{view};
 ghost use Rattle.text.specs.Text.{Wrote};
 ghost use Rattle.soundness.specs.Soundness.{Sound};
 ghost use Rattle.snapshot.specs.Card.{bytesOf, objectAt, membershipAt, appointedAt, grantedAt, from, fileOf};
 ghost use Rattle.snapshot.specs.Answers.{Writes};
-ghost use Rattle.snapshot.specs.Writing.{Penned, rowOf, storedAnywhere, fresh};
+ghost use Rattle.snapshot.specs.Writing.{Penned, rowOf, fresh};
 use crate::Entry;
 use crate::Pen;
 use crate::Status;
 use crate::Written;
 use crate::entries::appointed_of;
 use crate::entries::granted_of;
-use crate::entries::membership_of;
 use crate::entries::object_of;
 use reach::Policy;
-use reach::has;
 use soundness::is_sound;
 use text::put_byte;
 
@@ -90,44 +86,6 @@ fn pen_objects(p: Policy, out: &mut [u8], pen: Pen) -> Pen
     so_far
 }
 
-// All that is stored as directly in anything, as a set.
-fn stored_anywhere(members: &[u64; 64]) -> u64
-    ensures { λ r. ⌜ r ≡ storedAnywhere 64 (now (members .entry)) ⌝ }
-{
-    let mut all: u64 = 0;
-    let mut g: u8 = 0;
-    while g < 64 {
-        all = all | members[g as usize];
-        g = g + 1;
-    }
-    all
-}
-
-// The set of g alone where the test passed, and else of nothing.
-fn marked(passed: bool, g: u8) -> u64
-    requires { ⌜ g < 64 ⌝ }
-    ensures { λ r. ⌜ SetOf r (λ y. (y ≡ g) × (passed ≡ true)) ⌝ }
-{
-    if passed { 1u64 << g } else { 0 }
-}
-
-// The groups that x is directly in, as a set, if x is in any.
-fn groups_of(members: &[u64; 64], some: bool, x: u8) -> u64
-    requires { ⌜ (some ≡ false → (g : ℕ) → has (getD (now members) g 0) x ≡ false) ⌝ }
-    ensures { λ r. ⌜ SetOf r (λ g. (g < 64) × (has (getD (now (members .entry)) g 0) x ≡ true)) ⌝ }
-{
-    if !some {
-        return 0;
-    }
-    let mut set: u64 = 0;
-    let mut g: u8 = 0;
-    while g < 64 {
-        set = set | marked(has(members[g as usize], x), g);
-        g = g + 1;
-    }
-    set
-}
-
 // The memberships of x in these groups, the lowest first.
 fn pen_row(groups: u64, x: u8, out: &mut [u8], pen: Pen) -> Pen
     requires { ⌜ pen .needed ≤ 90000 ⌝ }
@@ -149,13 +107,10 @@ fn pen_memberships(p: Policy, out: &mut [u8], pen: Pen) -> Pen
     ensures { λ r. ⌜ Penned (now (out .entry)) pen (from 64 0 (λ x. from 64 0 (λ g. bytesOf (membershipAt (view p) x g))))
         (now (out .exit)) r ⌝ }
 {
-    let members = p.members;
-    let anywhere = stored_anywhere(&members);
     let mut so_far = pen;
     let mut x: u8 = 0;
     while x < 64 {
-        let groups = groups_of(&members, has(anywhere, x), x);
-        so_far = pen_row(groups, x, out, so_far);
+        so_far = pen_row(p.memberships[x as usize], x, out, so_far);
         x = x + 1;
     }
     so_far

@@ -1,5 +1,5 @@
 -- What the tests of one row, one appointment and one rule decide, against any masks.
--- What a row has outside the objects in use is a set again, empty or not; the others are tests side by side, each deciding its field.
+-- What a row has outside the groups is a set again, empty or not; the others are tests side by side, each deciding its field.
 use mathlib.Core.Path.{_≡_, refl, sym, ap, _∙_}
 use mathlib.Core.Bool.{Bool, true, false, not, _&&_, true≢false, false≢true}
 use Prim.Native.Nat.{ℕ, _-_, _^_, _<_}
@@ -29,37 +29,39 @@ never n = record { sound = λ e. absurd (false≢true e); complete = λ p. absur
 
 -- ---- A row
 
-module _ (m : Masks) (row g : ℕ) where
+module _ (m : Masks) (row x : ℕ) where
   -- Where nothing is stored there is nothing to ask.
-  pub row-none : row ≡ 0 → RowIn m row g
-  row-none e x h = absurd (bit-none x (ap (λ (n : ℕ). bit n x) (sym e) ∙ has-decides row x .sound h))
+  pub row-none : row ≡ 0 → RowIn m row x
+  row-none e g h = absurd (bit-none g (ap (λ (n : ℕ). bit n g) (sym e) ∙ has-decides row g .sound h))
 
-  module _ (objects-word : m .objects < 2 ^ 64) where
-    -- What is stored of no object in use.
-    strays : SetOf (bitAnd row (2 ^ 64 - 1 - m .objects)) (λ x. (bit row x ≡ 1) × ((x < 64) × (bit (m .objects) x ≡ 1 → ⊥)))
-    strays = set-mask row (set-not (set-bits (m .objects) objects-word))
+  module _ (groups-word : m .groups < 2 ^ 64) where
+    -- What is stored in no group.
+    strays :
+        SetOf (bitAnd row (2 ^ 64 - 1 - m .groups)) (λ g. (bit row g ≡ 1) × ((g < 64) × (bit (m .groups) g ≡ 1 → ⊥)))
+    strays = set-mask row (set-not (set-bits (m .groups) groups-word))
 
     -- One stray is enough to refuse the row.
-    pub row-stray : (bitAnd row (2 ^ 64 - 1 - m .objects) ≡ 0 → ⊥) → RowIn m row g → ⊥
+    pub row-stray : (bitAnd row (2 ^ 64 - 1 - m .groups) ≡ 0 → ⊥) → RowIn m row x → ⊥
     row-stray n f =
-        let s = decides-nonempty strays .sound (rw (ne-eqb (bitAnd row (2 ^ 64 - 1 - m .objects)) 0 n)) in
+        let s = decides-nonempty strays .sound (rw (ne-eqb (bitAnd row (2 ^ 64 - 1 - m .groups)) 0 n)) in
         let r = has-decides row (s .place) .complete (s .at .0) in
-        s .at .1 .1 (has-decides (m .objects) (s .place) .sound (f (s .place) r .0))
+        s .at .1 .1 (has-decides (m .groups) (s .place) .sound (f (s .place) r .1))
 
-    -- Something is stored, and no stray: the group decides.
-    pub row-in : row < 2 ^ 64 → (row ≡ 0 → ⊥) → bitAnd row (2 ^ 64 - 1 - m .objects) ≡ 0 → Decides (has (m .groups) g) (RowIn m row g)
+    -- Something is stored, and no stray: whether x is in use decides.
+    pub row-in : row < 2 ^ 64 → (row ≡ 0 → ⊥) → bitAnd row (2 ^ 64 - 1 - m .groups) ≡ 0
+        → Decides (has (m .objects) x) (RowIn m row x)
     row-in w n e =
         decides-as
-        (decides-true (has (m .groups) g))
-        (λ group x r. (in-use x (has-decides row x .sound r) (has (m .objects) x) (has-decides (m .objects) x), group))
-        (λ f. let s = some-bit in f (s .place) (has-decides row (s .place) .complete (s .at)) .1)
+        (decides-true (has (m .objects) x))
+        (λ used g r. (used, is-group g (has-decides row g .sound r) (has (m .groups) g) (has-decides (m .groups) g)))
+        (λ f. let s = some-bit in f (s .place) (has-decides row (s .place) .complete (s .at)) .0)
       where
-        some-bit : Some 64 (λ x. bit row x ≡ 1)
+        some-bit : Some 64 (λ g. bit row g ≡ 1)
         some-bit = decides-nonempty (set-bits row w) .sound (rw (ne-eqb row 0 n))
 
-        in-use : (x : ℕ) → bit row x ≡ 1 → (t : Bool) → Decides t (bit (m .objects) x ≡ 1) → t ≡ true
-        in-use x i true d = refl
-        in-use x i false d = absurd (set-empty strays e x (i, (set-below (set-bits row w) x i, refuted d refl)))
+        is-group : (g : ℕ) → bit row g ≡ 1 → (t : Bool) → Decides t (bit (m .groups) g ≡ 1) → t ≡ true
+        is-group g i true d = refl
+        is-group g i false d = absurd (set-empty strays e g (i, (set-below (set-bits row w) g i, refuted d refl)))
 
 -- ---- An appointment
 

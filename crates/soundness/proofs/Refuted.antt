@@ -15,7 +15,7 @@ use Rattle.reach.specs.Privileges.{holdsBy, holds, orphaned}
 use Rattle.reach.specs.Successors.{appointed, ruled}
 use Rattle.rules.proofs.Giving.{orphaned-passes}
 use Rattle.soundness.specs.Soundness.{Sound}
-use Rattle.soundness.specs.Tested.{strayMember, misfitAppointment, misfitRule, wideRow, Broken, broken}
+use Rattle.soundness.specs.Tested.{strayMembership, misfitAppointment, misfitRule, wideRow, Broken, broken}
 use Rattle.soundness.specs.Faults.{Unsound, emptyMember, inUser, inEmpty, groupHolds, emptyHolds, pastHolds, ownerOfUser, ownerOfEmpty}
 use Rattle.soundness.specs.Faults.{administratorOfUser, ownerWithB, managerWithB, userRule, emptyRule, idleRule, ownerless, harmless}
 use Rattle.soundness.proofs.Tested.{sound-tested}
@@ -23,7 +23,7 @@ use Rattle.soundness.proofs.Tested.{sound-tested}
 -- Which clauses are broken, with every definition open: what is to compute opens this one.
 unfoldable pub computedFaults : Policy → Broken
 unfolding bit has some counted sort stored appointment standing rule initial inUse direct chain under holdsBy holds orphaned appointed ruled
-    strayMember misfitAppointment misfitRule wideRow
+    strayMembership misfitAppointment misfitRule wideRow
 computedFaults p = broken p
 
 -- ---- [02:2.4] "its stored memberships .. all name objects in use of the right sort"
@@ -128,7 +128,7 @@ owners-only = refl
 
 sized-harmless : Sized harmless
 unfolding computedFaults
-sized-harmless = record { sorts = refl; members = refl; appointments = refl; rules = refl }
+sized-harmless = record { sorts = refl; memberships = refl; appointments = refl; rules = refl }
 
 -- [02:2.4] What an empty place holds is no fault.
 pub harmless-sound : Sound (view harmless)

@@ -24,7 +24,7 @@ use Rattle.reach.proofs.Deciding.{standing-decides}
 use Rattle.rules.specs.Allowing.{Appointable}
 use Rattle.rules.proofs.Giving.{orphaned-passes}
 use Rattle.soundness.specs.Soundness.{MembersFit, AppointmentsFit, Grantable, RulesFit, Sound}
-use Rattle.soundness.specs.Tested.{appointable, grantable, strayMember, misfitAppointment, misfitRule, wideRow, Broken, broken, unbroken}
+use Rattle.soundness.specs.Tested.{appointable, grantable, strayMembership, misfitAppointment, misfitRule, wideRow, Broken, broken, unbroken}
 
 -- A test that fails, fails at every number below its bound.
 none-at : (n : ℕ) (t : ℕ → Bool) → some n t ≡ false → (i : ℕ) → i < n → t i ≡ false
@@ -73,31 +73,34 @@ module _ (p : Policy) where
 
 module _ (p : Policy) (z : Sized p) where
   -- What is stored is stored on the table, in a row that is not empty.
-  row-has : (x g : ℕ) → view p .stored x g ≡ true → bit (getD (p .members) g 0) x ≡ 1
+  row-has : (x g : ℕ) → view p .stored x g ≡ true → bit (getD (p .memberships) x 0) g ≡ 1
   unfolding stored
-  row-has x g s = has-decides (getD (p .members) g 0) x .sound s
+  row-has x g s = has-decides (getD (p .memberships) x 0) g .sound s
 
-  row-some : (x g : ℕ) → view p .stored x g ≡ true → getD (p .members) g 0 ≡ 0 → ⊥
-  row-some x g s e = bit-none x (ap (λ (r : ℕ). bit r x) (sym e) ∙ row-has x g s)
+  row-some : (x g : ℕ) → view p .stored x g ≡ true → getD (p .memberships) x 0 ≡ 0 → ⊥
+  row-some x g s e = bit-none g (ap (λ (r : ℕ). bit r g) (sym e) ∙ row-has x g s)
 
-  group-inside : (x g : ℕ) → view p .stored x g ≡ true → g < 64
-  group-inside x g s = at (decLt g 64)
+  object-inside : (x g : ℕ) → view p .stored x g ≡ true → x < 64
+  object-inside x g s = at (decLt x 64)
     where
-      at : Dec (g < 64) → g < 64
+      at : Dec (x < 64) → x < 64
       at (yes l) = l
-      at (no n) = absurd (row-some x g s (getD-past (p .members) g 0 (omega (arith, z .members))))
+      at (no n) = absurd (row-some x g s (getD-past (p .memberships) x 0 (omega (arith, z .memberships))))
 
-  member-inside : wideRow p ≡ false → (x g : ℕ) → view p .stored x g ≡ true → x < 64
+  group-inside : wideRow p ≡ false → (x g : ℕ) → view p .stored x g ≡ true → g < 64
   unfolding wideRow
-  member-inside w x g s =
-      set-below (set-bits (getD (p .members) g 0) (leb-false _ _ (none-at 64 _ w g (group-inside x g s)))) x (row-has x g s)
+  group-inside w x g s =
+      let word = leb-false _ _ (none-at 64 _ w x (object-inside x g s)) in
+      set-below (set-bits (getD (p .memberships) x 0) word) g (row-has x g s)
 
   -- Clause by clause.
-  pub members-tested : wideRow p ≡ false → strayMember p ≡ false → MembersFit (view p)
-  unfolding strayMember
-  members-tested w e x g s =
-      let row = other _ _ (none-at 64 _ e g (group-inside x g s)) (ap not (ne-eqb (getD (p .members) g 0) 0 (row-some x g s))) in
-      decides-and _ _ (decides-in-use p x) (decides-eqb _ 1) .sound (passes _ _ (none-at 64 _ row x (member-inside w x g s)) s)
+  pub memberships-tested : wideRow p ≡ false → strayMembership p ≡ false → MembersFit (view p)
+  unfolding strayMembership
+  memberships-tested w e x g s =
+      let some-group = ap not (ne-eqb (getD (p .memberships) x 0) 0 (row-some x g s)) in
+      let row = other _ _ (none-at 64 _ e x (object-inside x g s)) some-group in
+      let fits = passes _ _ (none-at 64 _ row g (group-inside w x g s)) s in
+      decides-and _ _ (decides-in-use p x) (decides-eqb _ 1) .sound fits
 
   pub appointments-tested : misfitAppointment p ≡ false → AppointmentsFit (view p)
   unfolding misfitAppointment appointment
@@ -129,7 +132,7 @@ module _ (p : Policy) (z : Sized p) where
   pub sound-tested : wideRow p ≡ false → broken p ≡ unbroken → Sound (view p)
   sound-tested w e =
       record {
-        memberships = members-tested w (ap (λ (b : Broken). b .memberships) e);
+        memberships = memberships-tested w (ap (λ (b : Broken). b .memberships) e);
         appointments = appointments-tested (ap (λ (b : Broken). b .appointments) e);
         rules = rules-tested (ap (λ (b : Broken). b .rules) e);
         owners = orphaned-passes p .sound (ap (λ (b : Broken). b .owners) e);

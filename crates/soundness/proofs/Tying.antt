@@ -62,14 +62,16 @@ kind-known n = go (leb n 3) refl
 
 module _ (p : Policy) (z : Sized p) (m : Masks) (k : MasksOf p m) where
   -- Table by table, against the masks and on the policy.
-  members-decided : {t : Bool} → Decides t (RowsIn m (p .members)) → Decides t (MembersFit (view p))
+  memberships-decided : {t : Bool} → Decides t (RowsIn m (p .memberships)) → Decides t (MembersFit (view p))
   unfolding stored
-  members-decided d =
+  memberships-decided d =
       decides-as d
       (λ f x g s.
-      let h = every-number (λ g row. RowIn m row g) (p .members) 0 64 (z .members) (λ g. row-none m 0 g refl) f g x s in
+      let rows = every-number (λ y row. RowIn m row y) (p .memberships) 0 64 (z .memberships) (λ y. row-none m 0 y refl) f in
+      let h = rows x g s in
       (decides-has (k .objects) x .sound (h .0), decides-has (k .groups) g .sound (h .1)))
-      (λ f g l x s. let h = f x g s in (decides-has (k .objects) x .complete (h .0), decides-has (k .groups) g .complete (h .1)))
+      (λ f x l g s.
+      let h = f x g s in (decides-has (k .objects) x .complete (h .0), decides-has (k .groups) g .complete (h .1)))
 
   -- Past the table of appointments none stands.
   none-appointed : AppointmentIn m noAppointment
@@ -122,12 +124,12 @@ module _ (p : Policy) (z : Sized p) (m : Masks) (k : MasksOf p m) where
   owned-decided false e = always (orphaned-passes p .sound e)
 
   -- The four tests together decide soundness.
-  pub sound-decided : (a b c : Bool) → Decides a (RowsIn m (p .members)) → Decides b (AppointmentsIn m (p .appointments))
+  pub sound-decided : (a b c : Bool) → Decides a (RowsIn m (p .memberships)) → Decides b (AppointmentsIn m (p .appointments))
       → Decides c (RulesIn m (p .rules)) → Decides (a && b && c && not (orphaned p)) (Sound (view p))
   sound-decided a b c da db dc =
       decides-as
       (decides-and _ _
-      (decides-and _ _ (decides-and _ _ (members-decided da) (appointments-decided db)) (rules-decided dc))
+      (decides-and _ _ (decides-and _ _ (memberships-decided da) (appointments-decided db)) (rules-decided dc))
       (owned-decided (orphaned p) refl))
       (λ h. record { memberships = h .0 .0 .0; appointments = h .0 .0 .1; rules = h .0 .1; owners = h .1 })
       (λ s. (((s .memberships, s .appointments), s .rules), s .owners))

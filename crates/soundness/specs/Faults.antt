@@ -10,9 +10,9 @@ use Rattle.soundness.specs.Soundness.{Sound}
 abbrev pub Unsound : Policy → Type 0
 Unsound p = Sound (view p) → ⊥
 
--- The founding with another set of direct members of g.
+-- The founding with another set of groups that x is directly in.
 abbrev pub withRow : ℕ → ℕ → Policy
-withRow g row = withMembers initial (set (initial .members) g row)
+withRow x row = withMembers initial (set (initial .memberships) x row)
 
 -- The founding with an appointment at the last place, and with a rule in use at the last place.
 abbrev pub withAppointment : ℕ → ℕ → ℕ → ℕ → Policy
@@ -25,14 +25,14 @@ withRule u t o = ruled initial 63 (record { used = true; users = u; targets = t;
 
 -- Beside user 1 the empty object 63 is in group 0.
 abbrev pub emptyMember : Policy
-emptyMember = withRow 0 (2 + 2 ^ 63)
+emptyMember = withRow 63 1
 
--- Group 0 is in user 1; user 1 is in the empty object 63.
+-- Group 0 is in user 1; user 1 is in the empty object 63, beside group 0.
 abbrev pub inUser : Policy
-inUser = withRow 1 1
+inUser = withRow 0 2
 
 abbrev pub inEmpty : Policy
-inEmpty = withRow 63 2
+inEmpty = withRow 1 (1 + 2 ^ 63)
 
 -- ---- "the numbers in its places in use, unread B apart, all name objects in use of the right sort", of appointments
 

@@ -17,12 +17,12 @@ use Rattle.rules.specs.Allowing.{Standing}
 abbrev pub Every : ℕ → (ℕ → Type 0) → Type 0
 Every n P = (i : ℕ) → i < n → P i
 
--- What is stored as directly in g is in use, and g is a group if anything is.
+-- What x is stored as directly in is a group, and x is in use if anything is stored.
 abbrev pub RowIn : Masks → ℕ → ℕ → Type 0
-RowIn m row g = (x : ℕ) → has row x ≡ true → (has (m .objects) x ≡ true) × (has (m .groups) g ≡ true)
+RowIn m row x = (g : ℕ) → has row g ≡ true → (has (m .objects) x ≡ true) × (has (m .groups) g ≡ true)
 
 abbrev pub RowsIn : Masks → List ℕ → Type 0
-RowsIn m rows = Every 64 (λ g. RowIn m (getD rows g 0) g)
+RowsIn m rows = Every 64 (λ x. RowIn m (getD rows x 0) x)
 
 -- The numbers of an appointment that APPOINT can ask for; what an empty place holds is not asked.
 pub record AppointableIn (m : Masks) (w : Appointment) : Type 0 where

@@ -20,9 +20,10 @@ appointable p w =
 abbrev pub grantable : Policy → AccessRule → Bool
 grantable p r = isGroup p (r .users) && isGroup p (r .targets) && not (eqb (r .operations) 0)
 
--- Some membership, some appointment that stands, some rule in use does not fit. A row of no members is passed over.
-unfoldable pub strayMember : Policy → Bool
-strayMember p = some 64 (λ g. not (eqb (getD (p .members) g 0) 0) && some 64 (λ x. stored p x g && not (inUse p x && isGroup p g)))
+-- Some membership, some appointment that stands, some rule in use does not fit. An object stored in nothing is passed over.
+unfoldable pub strayMembership : Policy → Bool
+strayMembership p =
+    some 64 (λ x. not (eqb (getD (p .memberships) x 0) 0) && some 64 (λ g. stored p x g && not (inUse p x && isGroup p g)))
 
 unfoldable pub misfitAppointment : Policy → Bool
 misfitAppointment p = some 32 (λ i. standing (appointment p i) && not (appointable p (appointment p i)))
@@ -39,12 +40,12 @@ pub record Broken : Type 0 where
 
 abbrev pub broken : Policy → Broken
 broken p =
-    record { memberships = strayMember p; appointments = misfitAppointment p; rules = misfitRule p; owners = orphaned p }
+    record { memberships = strayMembership p; appointments = misfitAppointment p; rules = misfitRule p; owners = orphaned p }
 
 -- None of them.
 abbrev pub unbroken : Broken
 unbroken = record { memberships = false; appointments = false; rules = false; owners = false }
 
--- Some row of the members is no word: with no policy that the program holds.
+-- Some row of the memberships is no word: with no policy that the program holds.
 unfoldable pub wideRow : Policy → Bool
-wideRow p = some 64 (λ g. leb (2 ^ 64) (getD (p .members) g 0))
+wideRow p = some 64 (λ x. leb (2 ^ 64) (getD (p .memberships) x 0))

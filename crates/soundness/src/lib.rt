@@ -9,29 +9,29 @@ use reach::Masks;
 use reach::Policy;
 use reach::has;
 
-// Whether all that is stored as directly in g is in use, and g a group if anything is.
-fn row_fits(row: u64, m: Masks, g: u8) -> bool
-    ensures { λ r. ⌜ Decides r (RowIn m row g) ⌝ }
+// Whether all that x is stored as directly in is a group, and x in use if anything is stored.
+fn row_fits(row: u64, m: Masks, x: u8) -> bool
+    ensures { λ r. ⌜ Decides r (RowIn m row x) ⌝ }
 {
     if row == 0 {
         return true;
     }
-    if row & !m.objects != 0 {
+    if row & !m.groups != 0 {
         return false;
     }
-    has(m.groups, g)
+    has(m.objects, x)
 }
 
 // Whether every stored membership is of an object in use in a group.
-fn members_fit(members: &[u64; 64], m: Masks) -> bool
-    ensures { λ r. ⌜ Decides r (RowsIn m (now (members .entry))) ⌝ }
+fn memberships_fit(memberships: &[u64; 64], m: Masks) -> bool
+    ensures { λ r. ⌜ Decides r (RowsIn m (now (memberships .entry))) ⌝ }
 {
-    let mut g: u8 = 0;
-    while g < 64 {
-        if !row_fits(members[g as usize], m, g) {
+    let mut x: u8 = 0;
+    while x < 64 {
+        if !row_fits(memberships[x as usize], m, x) {
             return false;
         }
-        g += 1;
+        x += 1;
     }
     true
 }
@@ -92,7 +92,7 @@ pub fn is_sound(p: Policy) -> bool
     ensures { λ r. ⌜ Decides r (Sound (view p)) ⌝ }
 {
     let m = p.masks();
-    let memberships = members_fit(&p.members, m);
+    let memberships = memberships_fit(&p.memberships, m);
     let appointments = appointments_fit(p.appointments, m);
     let rules = rules_fit(p.rules, m);
     let owners = !p.orphaned();

@@ -6,8 +6,8 @@
 //! is stopped doesn't count.
 //!
 //! Streams from the founding are compared as whole reports, whole, torn and with bytes changed,
-//! and record by record; single requests on sheets of any value; cards that are written, read
-//! back and damaged. A difference is printed with the shortest list of records, or with the sheet
+//! and record by record; single requests on sheets of any value, and what a few of their objects
+//! are under; cards that are written, read back and damaged. A difference is printed with the shortest list of records, or with the sheet
 //! or the card, that shows it, and ends the run with status 1. At the end it prints how much was
 //! compared.
 
@@ -23,6 +23,7 @@ use std::time::{Duration, Instant};
 
 const SHEETS_PER_TURN: usize = 400;
 const REQUESTS_PER_SHEET: usize = 5;
+const OBJECTS_PER_SHEET: usize = 5;
 const CARDS_PER_TURN: usize = 100;
 
 fn main() -> ExitCode {
@@ -104,6 +105,8 @@ struct Done {
     report_lines: usize,
     on_streams: Counts,
     on_sheets: Counts,
+    /// How many sets of all that an object is under have so many objects: none, one, more.
+    above: [usize; 3],
     shapes: Shapes,
     /// How many cards were written, and how many read, with code 0 and with another.
     written: [usize; 2],
@@ -114,12 +117,16 @@ impl Done {
     fn so_far(&self) -> String {
         format!(
             "{} streams of {} records one by one; {} reports with {} lines; {} single requests; \
+             {} objects under nothing, {} under themselves alone and {} under more; \
              {} cards written and {} refused, {} read and {} damaged",
             self.streams,
             self.on_streams.total(),
             self.reports,
             self.report_lines,
             self.on_sheets.total(),
+            self.above[0],
+            self.above[1],
+            self.above[2],
             self.written[0],
             self.written[1],
             self.read[0],
@@ -165,7 +172,7 @@ impl Done {
         Ok(())
     }
 
-    /// A few requests on one sheet of any value.
+    /// A few requests on one sheet of any value, and what a few numbers are under.
     fn requests(&mut self, rng: &mut Rng) -> Result<(), String> {
         let picture = generate::picture(rng);
         let sheet = Sheet::from_picture(&picture);
@@ -173,6 +180,12 @@ impl Done {
             let record = generate::request(rng, &sheet);
             let answer = compare::single(&picture, &record)?;
             self.on_sheets.add(&record, answer.code);
+        }
+        for _ in 0..OBJECTS_PER_SHEET {
+            let anywhere = rng.percent(10);
+            let x = rng.below(if anywhere { 256 } else { 64 }) as u8;
+            let set = compare::above(&picture, x)?;
+            self.above[set.count_ones().min(2) as usize] += 1;
         }
         Ok(())
     }

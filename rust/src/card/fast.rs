@@ -5,7 +5,7 @@
 
 use super::*;
 use crate::wide;
-use crate::words::{all_if, at, bit, each, has, is_kind, is_sort};
+use crate::words::{all_if, at, bit, each, has, is_kind, is_sort, turned};
 
 /// As `write`.
 pub fn write_fast(sheet: &Sheet, lent: &mut [u8]) -> (u8, usize) {
@@ -61,26 +61,6 @@ fn framed<const N: usize, const L: usize>(kind: u8, fields: [u8; N]) -> [u8; L] 
     record[2] = kind;
     record[4..].copy_from_slice(&fields);
     record
-}
-
-/// The same bits with rows and columns exchanged: bit g of row x is bit x of row g. Square blocks
-/// off the diagonal change places, from the largest to single bits.
-fn turned(mut rows: [u64; OBJECTS]) -> [u64; OBJECTS] {
-    let mut width = OBJECTS / 2;
-    let mut low = u64::MAX >> width;
-    while width > 0 {
-        for first in (0..OBJECTS).step_by(2 * width) {
-            for upper in first..first + width {
-                let lower = upper + width;
-                let differ = (rows[upper] >> width ^ rows[lower]) & low;
-                rows[upper] ^= differ << width;
-                rows[lower] ^= differ;
-            }
-        }
-        width /= 2;
-        low ^= low << width;
-    }
-    rows
 }
 
 /// As `read`.
@@ -262,19 +242,5 @@ mod tests {
         }
         println!("codes {codes:?}");
         assert!(codes[0] >= 2000 && codes[13] >= 10_000 && codes[14] >= 500);
-    }
-
-    /// Turned, a set of objects for each group is a set of groups for each object.
-    #[test]
-    fn rows_are_turned() {
-        let mut rng = Rng::new(22);
-        for _ in 0..200 {
-            let rows = std::array::from_fn(|_| rng.word());
-            for (x, groups) in turned(rows).into_iter().enumerate() {
-                for (g, objects) in rows.iter().enumerate() {
-                    assert_eq!(groups >> g & 1, objects >> x & 1);
-                }
-            }
-        }
     }
 }

@@ -45,10 +45,7 @@ impl Holdings {
     pub fn of(sheet: Sheet) -> Holdings {
         let mut under = [[false; OBJECTS]; OBJECTS];
         for x in objects() {
-            // "An empty object is under nothing."
-            if in_use(&sheet, x) {
-                climb(&sheet, x, &mut under[x as usize]);
-            }
+            under[x as usize] = all_over(&sheet, x);
         }
         Holdings { sheet, under }
     }
@@ -112,6 +109,16 @@ impl Holdings {
     pub fn objects_in_use(&self) -> impl Iterator<Item = u8> + '_ {
         objects().filter(|&x| in_use(&self.sheet, x))
     }
+}
+
+/// For each g, is x under it? "An empty object is under nothing", nor is a number outside the
+/// table.
+pub fn all_over(sheet: &Sheet, x: u8) -> [bool; OBJECTS] {
+    let mut found = [false; OBJECTS];
+    if in_use(sheet, x) {
+        climb(sheet, x, &mut found);
+    }
+    found
 }
 
 /// Marks `at` and all that a chain leads up to from it. "A stored membership counts only from

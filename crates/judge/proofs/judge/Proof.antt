@@ -1,12 +1,10 @@
--- The verdict is that of the tables of the policy, which have their sizes; with it goes the policy after, or the policy as it was.
-use mathlib.Core.Path.{_≡_, refl, ap, _∙_}
+-- The verdict is that of the record's own sender and request; with it goes the policy after, or the policy as it was.
+use mathlib.Core.Path.{_≡_, ap, _∙_}
 use mathlib.Core.List.{List}
 use Prim.Native.Nat.{ℕ}
 use native.Mathlib.Omega.{arith}
 use denote.Ref.{now}
 use Rattle.reach.specs.declared.Policy.{Policy}
-use Rattle.reach.specs.Tables.{Sized}
-use Rattle.reach.proofs.Sizes.{sized-of-lengths}
 use Rattle.rules.specs.declared.Answer.{Answer}
 use Rattle.rules.specs.Judging.{judge, verdict, OneAnswer}
 use Rattle.rules.proofs.Bounded.{one-answer}
@@ -20,20 +18,10 @@ use Rattle.judge.proofs.judge.Tie as tie
 both : (p : Policy) (b : List ℕ) {a : Answer} → a ≡ judge p b → (a ≡ judge p b) × OneAnswer p a
 both p b {a} e = (e, one-answer p b a e)
 
--- The tables of the policy have their sizes.
-sized : (c : tie.Start) → Sized (c .args .t1)
-sized c = search (needs, sized-of-lengths)
-
 judged : (c : tie.After-verdict)
-    → let s = c .before .before .before .before .before .before .before .before .before .before in
-    c .verdict .result ≡ verdict (s .args .t1) (now (s .args .bytes))
-judged c =
-    let asked = c .before .before .before in
-    let sent = asked .before in
-    let masks = sent .before .before .before in
-    let s = masks .before .before .before in
-    verdict-of _ _ (sent .byte .ensures) (asked .request-of .ensures)
-    (c .verdict .ensures (s .args .t1) (record { rows = refl; masks = masks .masks-of .ensures _ refl }) (sized s) refl refl)
+    → let s = c .before .before .before .before in
+    c .verdict .result ≡ verdict (s .args .p) (now (s .args .bytes))
+judged c = verdict-of _ _ (c .before .before .byte .ensures) (c .before .request-of .ensures) (c .verdict .ensures)
 
 returns : tie.Need-returns
 returns c =
@@ -42,7 +30,7 @@ returns c =
     (c .answer .ensures
     ∙ ap (λ (n : Policy). answered n (d .before .verdict .result)) (c .before .after .ensures)
     ∙ judge-accepts _ _ (judged (d .before)) (d .code-of .ensures) (omega (arith, c .before .before .if1 .taken))
-    (d .before .before .before .before .request-of .ensures))
+    (d .before .before .request-of .ensures))
 
 returns-2 : tie.Need-returns-2
 returns-2 c =
@@ -53,7 +41,6 @@ pub judge-spec : {M : Type 1} → statement M
 judge-spec =
     tie.close
     (tie.spec
-    (λ c κs. search needs)
     (λ c κs. search needs)
     (λ c κs. search needs)
     (λ c κs. search needs)

@@ -1,32 +1,32 @@
--- The checks in their order, of every policy with the tables that are lent. `fact-n` is what check n answers, as the rules have it;
--- `passed-n` that the first n do not apply; so each refusal is that of the first check that applies, and what passes all twelve is done.
-use mathlib.Core.Path.{_≡_, sym, ap, _∙_}
+-- The checks in their order. `fact-n` is what check n answers, as the rules have it; `passed-n` that the first n do not
+-- apply; so each refusal is that of the first check that applies, and what passes all twelve is done. A check that is not
+-- asked of a kind cannot apply to it.
+use mathlib.Core.Path.{_≡_, refl, sym, _∙_}
+use mathlib.Core.Bool.{true, false}
+use mathlib.Core.Logic.{⊎-elim}
+use Prim.Native.Nat.{ℕ}
 use native.Mathlib.Omega.{arith}
 use denote.Ref.{now}
-use Rattle.reach.specs.declared.Policy.{Policy}
 use Rattle.reach.specs.Tables.{Sized}
-use Rattle.reach.specs.Surveys.{Lent}
+use Rattle.reach.specs.Reach.{isUser}
+use Rattle.reach.proofs.Deciding.{decides-user}
+use Rattle.reach.proofs.Sizes.{sized-of-lengths}
 use Rattle.rules.specs.Refusals.{torn, unknown, misfit, stranger, offTheSheet, absent, wrongSort, alreadySo}
 use Rattle.rules.specs.Refusals.{noAuthority, ownGain, handOver, orphan}
-use Rattle.rules.specs.Judging.{doneBy}
-use Rattle.rules.specs.Cleared.{Authorised}
-use Rattle.forms.specs.Naming.{Named}
-use Rattle.forms.proofs.Masking.{no-stranger}
-use Rattle.forms.proofs.Naming.{named-of}
-use Rattle.judge.proofs.Ordered.{Passed, pass-start, pass, verdict-stops, verdict-done}
-use Rattle.checks.proofs.Governing.{done-is}
+use Rattle.judge.specs.Naming.{namedBy}
+use Rattle.judge.specs.Kind.{isUse}
+use Rattle.judge.proofs.Sorting.{no-stranger}
+use Rattle.judge.proofs.ByKind.{no-own-gain, no-hand-over, no-orphan, use-passes, done-by-none}
+use Rattle.judge.proofs.Ordered.{Passed, pass-start, pass, verdict-stops, verdict-of-use, verdict-done}
 use borrow.Author.Needs.{needs}
 use Rattle.judge.proofs.verdict.Statement.{statement}
 use Rattle.judge.proofs.verdict.Tie as tie
 
--- The tables are those of the policy.
-record Given (c : tie.Start) (p : Policy) : Type 0 where
-  lent : Lent p (now (c .args .members)) (c .args .m)
-  sized : Sized p
-  appointments : p .appointments ≡ c .args .appointments
-  rules : p .rules ≡ c .args .rules
+-- The first n checks do not apply.
+abbrev Past : tie.Start → ℕ → Type 0
+Past s n = Passed (s .args .t1) (now (s .args .bytes)) (s .args .u) (s .args .q) n
 
--- ---- The way back, from after each check to after an earlier one, and what is to be had there
+-- ---- The way back, from after each check to after the one before it
 
 abbrev start-1 : tie.Else1 → tie.Start
 start-1 c = c .before .before .before
@@ -38,31 +38,25 @@ abbrev back-3 : tie.Else3 → tie.Else2
 back-3 c = c .before .before
 
 abbrev back-4 : tie.Else4 → tie.Else3
-back-4 c = c .before .before
+back-4 c = c .before .before .before .before
 
 abbrev back-5 : tie.Else5 → tie.Else4
 back-5 c = c .before .before
 
 abbrev back-6 : tie.Else6 → tie.Else5
-back-6 c = c .before .before .before .before .before .before
+back-6 c = c .before .before .before .before .before .before .before
 
 abbrev back-7 : tie.Else7 → tie.Else6
-back-7 c = c .before .before
+back-7 c = c .before .before .before .before
 
 abbrev back-8 : tie.Else8 → tie.Else7
-back-8 c = c .before .before
+back-8 c = c .before .before .before .before .before
 
 abbrev back-9 : tie.Else9 → tie.Else8
-back-9 c = c .before .before .before
+back-9 c = c .before .before
 
 abbrev back-10 : tie.Else10 → tie.Else9
-back-10 c = c .before .before .before .before
-
-abbrev back-11 : tie.Else11 → tie.Else10
-back-11 c = c .before .before .before
-
-abbrev back-12 : tie.Else12 → tie.Else11
-back-12 c = c .before .before
+back-10 c = c .before .before .before .before .before
 
 abbrev start-2 : tie.Else2 → tie.Start
 start-2 c = start-1 (back-2 c)
@@ -91,291 +85,232 @@ start-9 c = start-8 (back-9 c)
 abbrev start-10 : tie.Else10 → tie.Start
 start-10 c = start-9 (back-10 c)
 
-abbrev start-11 : tie.Else11 → tie.Start
-start-11 c = start-10 (back-11 c)
-
-abbrev start-12 : tie.Else12 → tie.Start
-start-12 c = start-11 (back-12 c)
-
-abbrev six-7 : tie.Else7 → tie.Else6
-six-7 c = back-7 c
-
-abbrev six-8 : tie.Else8 → tie.Else6
-six-8 c = six-7 (back-8 c)
-
-abbrev six-9 : tie.Else9 → tie.Else6
-six-9 c = six-8 (back-9 c)
-
-abbrev five-9 : tie.Else9 → tie.Else5
-five-9 c = back-6 (six-9 c)
-
-abbrev four-9 : tie.Else9 → tie.Else4
-four-9 c = back-5 (five-9 c)
-
-abbrev nine-10 : tie.Else10 → tie.Else9
-nine-10 c = back-10 c
-
-abbrev nine-11 : tie.Else11 → tie.Else9
-nine-11 c = nine-10 (back-11 c)
-
-abbrev nine-12 : tie.Else12 → tie.Else9
-nine-12 c = nine-11 (back-12 c)
-
 -- ---- Check 1
 
-fact-1 : (c : tie.After-torn) → torn (now (c .before .before .args .bytes)) ≡ c .torn .result
+fact-1 : (c : tie.After-torn) → let s = c .before .before in torn (now (s .args .bytes)) ≡ c .torn .result
 fact-1 c = sym (c .torn .ensures)
 
-passed-1 : (c : tie.Else1) (p : Policy) → Passed p (now (start-1 c .args .bytes)) (start-1 c .args .u) (start-1 c .args .q) 1
-passed-1 c p = pass pass-start (fact-1 (c .before) ∙ c .if1 .left)
+passed-1 : (c : tie.Else1) → Past (start-1 c) 1
+passed-1 c = pass pass-start (fact-1 (c .before) ∙ c .if1 .left)
 
 returns : tie.Need-returns
-returns c = λ p l s a r. verdict-stops p _ _ _ 0 (omega arith) pass-start (fact-1 (c .before) ∙ c .if1 .taken)
+returns c = verdict-stops _ _ _ _ 0 (omega arith) pass-start (fact-1 (c .before) ∙ c .if1 .taken)
 
 -- ---- Check 2
 
-fact-2 : (c : tie.After-unknown) → unknown (now (start-1 (c .before) .args .bytes)) ≡ c .unknown .result
+fact-2 : (c : tie.After-unknown) → let s = start-1 (c .before) in unknown (now (s .args .bytes)) ≡ c .unknown .result
 fact-2 c = sym (c .unknown .ensures)
 
-passed-2 : (c : tie.Else2) (p : Policy) → Passed p (now (start-2 c .args .bytes)) (start-2 c .args .u) (start-2 c .args .q) 2
-passed-2 c p = pass (passed-1 (back-2 c) p) (fact-2 (c .before) ∙ c .if2 .left)
+passed-2 : (c : tie.Else2) → Past (start-2 c) 2
+passed-2 c = pass (passed-1 (back-2 c)) (fact-2 (c .before) ∙ c .if2 .left)
 
 returns-2 : tie.Need-returns-2
-returns-2 c =
-    λ p l s a r.
-    verdict-stops p _ _ _ 1 (omega arith) (passed-1 (c .before .before) p) (fact-2 (c .before) ∙ c .if2 .taken)
+returns-2 c = verdict-stops _ _ _ _ 1 (omega arith) (passed-1 (c .before .before)) (fact-2 (c .before) ∙ c .if2 .taken)
 
 -- ---- Check 3
 
-fact-3 : (c : tie.After-misfit) → misfit (now (start-2 (c .before) .args .bytes)) ≡ c .misfit .result
+fact-3 : (c : tie.After-misfit) → let s = start-2 (c .before) in misfit (now (s .args .bytes)) ≡ c .misfit .result
 fact-3 c = sym (c .misfit .ensures)
 
-passed-3 : (c : tie.Else3) (p : Policy) → Passed p (now (start-3 c .args .bytes)) (start-3 c .args .u) (start-3 c .args .q) 3
-passed-3 c p = pass (passed-2 (back-3 c) p) (fact-3 (c .before) ∙ c .if3 .left)
+passed-3 : (c : tie.Else3) → Past (start-3 c) 3
+passed-3 c = pass (passed-2 (back-3 c)) (fact-3 (c .before) ∙ c .if3 .left)
 
 returns-3 : tie.Need-returns-3
-returns-3 c =
-    λ p l s a r.
-    verdict-stops p _ _ _ 2 (omega arith) (passed-2 (c .before .before) p) (fact-3 (c .before) ∙ c .if3 .taken)
+returns-3 c = verdict-stops _ _ _ _ 2 (omega arith) (passed-2 (c .before .before)) (fact-3 (c .before) ∙ c .if3 .taken)
 
 -- ---- Check 4
 
-fact-4 : (c : tie.After-stranger) (p : Policy)
-    → let d = c .before in
-    Given (start-3 d) p → stranger p (start-3 d .args .u) ≡ c .stranger .result
-fact-4 c p g = sym (c .stranger .ensures p (g .lent .masks))
+fact-4 : (c : tie.After-stranger)
+    → let s = start-3 (c .before .before .before) in
+    stranger (s .args .t1) (s .args .u) ≡ c .stranger .result
+fact-4 c = sym (c .stranger .ensures _ refl)
 
-passed-4 : (c : tie.Else4) (p : Policy) → Given (start-4 c) p
-    → Passed p (now (start-4 c .args .bytes)) (start-4 c .args .u) (start-4 c .args .q) 4
-passed-4 c p g = pass (passed-3 (back-4 c) p) (fact-4 (c .before) p g ∙ c .if4 .left)
+passed-4 : (c : tie.Else4) → Past (start-4 c) 4
+passed-4 c = pass (passed-3 (back-4 c)) (fact-4 (c .before) ∙ c .if4 .left)
 
 returns-4 : tie.Need-returns-4
 returns-4 c =
-    λ p l s a r.
-    let d = c .before .before in
-    let g : Given (start-3 d) p = record { lent = l; sized = s; appointments = a; rules = r } in
-    verdict-stops p _ _ _ 3 (omega arith) (passed-3 d p) (fact-4 (c .before) p g ∙ c .if4 .taken)
+    verdict-stops _ _ _ _ 3 (omega arith) (passed-3 (c .before .before .before .before))
+    (fact-4 (c .before) ∙ c .if4 .taken)
+
+-- Whoever is heard is a user.
+user : (c : tie.Else4) → isUser (start-4 c .args .t1) (start-4 c .args .u) ≡ true
+user c = no-stranger _ _ (fact-4 (c .before) ∙ c .if4 .left)
 
 -- ---- Check 5
 
-fact-5 : (c : tie.After-off-the-sheet) → offTheSheet (start-4 (c .before) .args .q) ≡ c .off-the-sheet .result
+fact-5 : (c : tie.After-off-the-sheet)
+    → let s = start-4 (c .before) in
+    offTheSheet (s .args .q) ≡ c .off-the-sheet .result
 fact-5 c = sym (c .off-the-sheet .ensures)
 
-passed-5 : (c : tie.Else5) (p : Policy) → Given (start-5 c) p
-    → Passed p (now (start-5 c .args .bytes)) (start-5 c .args .u) (start-5 c .args .q) 5
-passed-5 c p g = pass (passed-4 (back-5 c) p g) (fact-5 (c .before) ∙ c .if5 .left)
+passed-5 : (c : tie.Else5) → Past (start-5 c) 5
+passed-5 c = pass (passed-4 (back-5 c)) (fact-5 (c .before) ∙ c .if5 .left)
 
 returns-5 : tie.Need-returns-5
-returns-5 c =
-    λ p l s a r.
-    let d = c .before .before in
-    let g : Given (start-4 d) p = record { lent = l; sized = s; appointments = a; rules = r } in
-    verdict-stops p _ _ _ 4 (omega arith) (passed-4 d p g) (fact-5 (c .before) ∙ c .if5 .taken)
+returns-5 c = verdict-stops _ _ _ _ 4 (omega arith) (passed-4 (c .before .before)) (fact-5 (c .before) ∙ c .if5 .taken)
 
 -- ---- Check 6
 
--- What stands at the place that the request names.
-named : (c : tie.After-rule-at) (p : Policy)
-    → let d = c .before .before .before .before in
-    Given (start-5 d) p → Named p (start-5 d .args .q) (c .before .before .appointment-at .result) (c .rule-at .result)
-named c p g =
-    named-of p _ (g .appointments) (g .rules)
-    (c .before .before .before .place-of .ensures) (c .before .before .appointment-at .ensures)
-    (c .before .place-of2 .ensures) (c .rule-at .ensures)
+fact-6 : (c : tie.After-absent)
+    → let s = start-5 (c .before .before .before .before .before .before) in
+    absent (s .args .t1) (s .args .q) ≡ c .absent .result
+fact-6 c = sym (c .absent .ensures _ refl (c .before .before .before .named-in .ensures))
 
-fact-6 : (c : tie.After-absent) (p : Policy)
-    → let d = c .before .before .before .before .before in
-    Given (start-5 d) p → absent p (start-5 d .args .q) ≡ c .absent .result
-fact-6 c p g =
-    sym (c .absent .ensures p (g .lent .masks) (named (c .before) p g))
-
-passed-6 : (c : tie.Else6) (p : Policy) → Given (start-6 c) p
-    → Passed p (now (start-6 c .args .bytes)) (start-6 c .args .u) (start-6 c .args .q) 6
-passed-6 c p g = pass (passed-5 (back-6 c) p g) (fact-6 (c .before) p g ∙ c .if6 .left)
+passed-6 : (c : tie.Else6) → Past (start-6 c) 6
+passed-6 c = pass (passed-5 (back-6 c)) (fact-6 (c .before) ∙ c .if6 .left)
 
 returns-6 : tie.Need-returns-6
 returns-6 c =
-    λ p l s a r.
-    let d = c .before .before .before .before .before .before in
-    let g : Given (start-5 d) p = record { lent = l; sized = s; appointments = a; rules = r } in
-    verdict-stops p _ _ _ 5 (omega arith) (passed-5 d p g)
-    (fact-6 (c .before) p g ∙ c .if6 .taken)
+    verdict-stops _ _ _ _ 5 (omega arith) (passed-5 (c .before .before .before .before .before .before .before))
+    (fact-6 (c .before) ∙ c .if6 .taken)
 
 -- ---- Check 7
 
-fact-7 : (c : tie.After-wrong-sort) (p : Policy)
-    → let d = c .before in
-    Given (start-6 d) p → wrongSort p (start-6 d .args .q) ≡ c .wrong-sort .result
-fact-7 c p g =
-    sym (c .wrong-sort .ensures p (g .lent .masks))
+fact-7 : (c : tie.After-wrong-sort)
+    → let s = start-6 (c .before .before .before) in
+    wrongSort (s .args .t1) (s .args .q) ≡ c .wrong-sort .result
+fact-7 c = sym (c .wrong-sort .ensures _ refl)
 
-passed-7 : (c : tie.Else7) (p : Policy) → Given (start-7 c) p
-    → Passed p (now (start-7 c .args .bytes)) (start-7 c .args .u) (start-7 c .args .q) 7
-passed-7 c p g = pass (passed-6 (back-7 c) p g) (fact-7 (c .before) p g ∙ c .if7 .left)
+passed-7 : (c : tie.Else7) → Past (start-7 c) 7
+passed-7 c = pass (passed-6 (back-7 c)) (fact-7 (c .before) ∙ c .if7 .left)
 
 returns-7 : tie.Need-returns-7
 returns-7 c =
-    λ p l s a r.
-    let d = c .before .before in
-    let g : Given (start-6 d) p = record { lent = l; sized = s; appointments = a; rules = r } in
-    verdict-stops p _ _ _ 6 (omega arith) (passed-6 d p g)
-    (fact-7 (c .before) p g ∙ c .if7 .taken)
+    verdict-stops _ _ _ _ 6 (omega arith) (passed-6 (c .before .before .before .before))
+    (fact-7 (c .before) ∙ c .if7 .taken)
 
 -- ---- Check 8
 
-fact-8 : (c : tie.After-already-so) (p : Policy)
-    → let d = c .before in
-    Given (start-7 d) p → alreadySo p (start-7 d .args .q) ≡ c .already-so .result
-fact-8 c p g =
-    let d = c .before in
-    sym (c .already-so .ensures p (g .lent) (named (six-7 d .before .before) p g))
+-- What stands at the place that the request names.
+named : (c : tie.Else6)
+    → let s = start-6 c in
+    c .before .before .before .before .named-in .result ≡ namedBy (s .args .t1) (s .args .q)
+named c = c .before .before .before .before .named-in .ensures
 
-passed-8 : (c : tie.Else8) (p : Policy) → Given (start-8 c) p
-    → Passed p (now (start-8 c .args .bytes)) (start-8 c .args .u) (start-8 c .args .q) 8
-passed-8 c p g = pass (passed-7 (back-8 c) p g) (fact-8 (c .before) p g ∙ c .if8 .left)
+fact-8 : (c : tie.After-already-so)
+    → let s = start-7 (c .before .before .before .before) in
+    alreadySo (s .args .t1) (s .args .q) ≡ c .already-so .result
+fact-8 c =
+    sym
+    (c .already-so .ensures _
+    (record { sorts = refl; memberships = refl })
+    (named (back-7 (c .before .before .before .before))))
+
+passed-8 : (c : tie.Else8) → Past (start-8 c) 8
+passed-8 c = pass (passed-7 (back-8 c)) (fact-8 (c .before) ∙ c .if8 .left)
 
 returns-8 : tie.Need-returns-8
 returns-8 c =
-    λ p l s a r.
-    let d = c .before .before in
-    let g : Given (start-7 d) p = record { lent = l; sized = s; appointments = a; rules = r } in
-    verdict-stops p _ _ _ 7 (omega arith) (passed-7 d p g)
-    (fact-8 (c .before) p g ∙ c .if8 .taken)
+    verdict-stops _ _ _ _ 7 (omega arith) (passed-7 (c .before .before .before .before .before))
+    (fact-8 (c .before) ∙ c .if8 .taken)
 
 -- ---- Check 9
 
-fact-9 : (c : tie.After-no-authority) (p : Policy)
-    → let d = c .before .before in
-    Given (start-8 d) p → noAuthority p (start-8 d .args .u) (start-8 d .args .q) ≡ c .no-authority .result
-fact-9 c p g =
-    let d = c .before .before in
-    sym (c .no-authority .ensures p (g .lent) (g .appointments) (named (six-8 d .before .before) p g)
-    (c .before .permitting-rule .ensures p (g .lent) (g .rules)))
+use-or-not : (c : tie.After-is-use) → isUse (start-8 (c .before) .args .q) ≡ c .is-use .result
+use-or-not c = sym (c .is-use .ensures)
 
-passed-9 : (c : tie.Else9) (p : Policy) → Given (start-9 c) p
-    → Passed p (now (start-9 c .args .bytes)) (start-9 c .args .u) (start-9 c .args .q) 9
-passed-9 c p g = pass (passed-8 (back-9 c) p g) (fact-9 (c .before) p g ∙ c .if9 .left)
-
+-- A USE is decided here.
 returns-9 : tie.Need-returns-9
 returns-9 c =
-    λ p l s a r.
-    let d = c .before .before .before in
-    let g : Given (start-8 d) p = record { lent = l; sized = s; appointments = a; rules = r } in
-    verdict-stops p _ _ _ 8 (omega arith) (passed-8 d p g)
-    (fact-9 (c .before) p g ∙ c .if9 .taken)
+    let yes = use-or-not (c .before .before) ∙ c .before .if9 .taken in
+    c .used .ensures yes ∙ verdict-of-use _ _ _ _ (passed-8 (c .before .before .before)) (use-passes _ _ _ yes)
 
--- ---- Check 10
+no-use : (c : tie.Else9) → isUse (start-9 c .args .q) ≡ false
+no-use c = use-or-not (c .before) ∙ c .if9 .left
 
--- What checks 4 to 9 have shown.
-authorised : (c : tie.Else9) (p : Policy) → Given (start-9 c) p → Authorised p (start-9 c .args .u) (start-9 c .args .q)
-authorised c p g =
-    record {
-      sized = g .sized;
-      user = let d = four-9 c in no-stranger _ _ (fact-4 (d .before) p g ∙ d .if4 .left);
-      cleared =
-          record {
-            on-sheet = let d = five-9 c in fact-5 (d .before) ∙ d .if5 .left;
-            present = let d = six-9 c in fact-6 (d .before) p g ∙ d .if6 .left;
-            sorted = let d = back-8 (back-9 c) in fact-7 (d .before) p g ∙ d .if7 .left;
-            fresh = fact-8 (back-9 c .before) p g ∙ back-9 c .if8 .left;
-          };
-      allowed = fact-9 (c .before) p g ∙ c .if9 .left;
-    }
-
-fact-10 : (c : tie.After-own-gain) (p : Policy)
-    → let d = c .before .before .before in
-    Given (start-9 d) p → ownGain p (start-9 d .args .u) (start-9 d .args .q) ≡ c .own-gain .result
-fact-10 c p g =
-    let d = c .before .before .before in
+fact-9 : (c : tie.After-no-authority)
+    → let s = start-9 (c .before .before .before .before) in
+    noAuthority (s .args .t1) (s .args .u) (s .args .q) ≡ c .no-authority .result
+fact-9 c =
+    let d = c .before .before .before .before in
+    let eight = back-9 d in
+    let six = back-7 (back-8 eight) in
     sym
-    (c .own-gain .ensures p (g .lent) (c .before .before .rows-for .ensures p (g .lent)) (g .appointments) (g .rules)
-    (authorised d p g))
+    (c .no-authority .ensures _
+    (record {
+      lent = record { sorts = refl; memberships = refl };
+      appointments = refl;
+      user = decides-user _ _ .sound (user (back-5 (back-6 six)));
+    })
+    (named six)
+    (no-use d))
 
-passed-10 : (c : tie.Else10) (p : Policy) → Given (start-10 c) p
-    → Passed p (now (start-10 c .args .bytes)) (start-10 c .args .u) (start-10 c .args .q) 10
-passed-10 c p g = pass (passed-9 (back-10 c) p g) (fact-10 (c .before) p g ∙ c .if10 .left)
+passed-9 : (c : tie.Else10) → Past (start-10 c) 9
+passed-9 c = pass (passed-8 (back-9 (back-10 c))) (fact-9 (c .before) ∙ c .if10 .left)
 
 returns-10 : tie.Need-returns-10
 returns-10 c =
-    λ p l s a r.
-    let d = c .before .before .before .before in
-    let g : Given (start-9 d) p = record { lent = l; sized = s; appointments = a; rules = r } in
-    verdict-stops p _ _ _ 9 (omega arith) (passed-9 d p g)
-    (fact-10 (c .before) p g ∙ c .if10 .taken)
+    verdict-stops _ _ _ _ 8 (omega arith) (passed-8 (back-9 (c .before .before .before .before .before)))
+    (fact-9 (c .before) ∙ c .if10 .taken)
 
--- ---- Check 11
+-- The tables of the policy have their sizes.
+sized : (c : tie.Start) → Sized (c .args .t1)
+sized c = search (needs, sized-of-lengths)
 
-fact-11 : (c : tie.After-hand-over) (p : Policy)
-    → let d = c .before .before in
-    Given (start-10 d) p → handOver p (start-10 d .args .u) (start-10 d .args .q) ≡ c .hand-over .result
-fact-11 c p g =
-    let d = c .before .before in
-    sym (c .hand-over .ensures p (g .lent .masks) (d .before .before .before .rows-for .ensures p (g .lent)) (g .appointments)
-    (authorised (nine-10 d) p g))
-
-passed-11 : (c : tie.Else11) (p : Policy) → Given (start-11 c) p
-    → Passed p (now (start-11 c .args .bytes)) (start-11 c .args .u) (start-11 c .args .q) 11
-passed-11 c p g = pass (passed-10 (back-11 c) p g) (fact-11 (c .before) p g ∙ c .if11 .left)
+fact-10 : (c : tie.After-own-gain)
+    → let d = start-10 (c .before .before .before) in
+    ownGain (d .args .t1) (d .args .u) (d .args .q) ≡ c .own-gain .result
+fact-10 c = sym (c .own-gain .ensures)
 
 returns-11 : tie.Need-returns-11
 returns-11 c =
-    λ p l s a r.
-    let d = c .before .before .before in
-    let g : Given (start-10 d) p = record { lent = l; sized = s; appointments = a; rules = r } in
-    verdict-stops p _ _ _ 10 (omega arith) (passed-10 d p g)
-    (fact-11 (c .before) p g ∙ c .if11 .taken)
+    verdict-stops _ _ _ _ 9 (omega arith) (passed-9 (c .before .before .before .before))
+    (fact-10 (c .before) ∙ c .if12 .taken)
 
--- ---- Check 12
+passed-10 : (c : tie.Joined11) → Past (start-10 (c .before .before)) 10
+passed-10 c =
+    pass
+    (passed-9 (c .before .before))
+    (⊎-elim
+    (λ w. fact-10 (record { before = record { before = c .before; if11 = w .0 }; own-gain = w .1 }) ∙ w .2 .left)
+    (λ w. no-own-gain _ _ _ (sym (c .before .can-gain .ensures) ∙ w .left))
+    (c .if11 .came))
 
-fact-12 : (c : tie.After-orphan) (p : Policy)
-    → let d = c .before in
-    Given (start-11 d) p → orphan p (start-11 d .args .q) ≡ c .orphan .result
-fact-12 c p g =
-    sym (c .orphan .ensures p (g .lent) (g .appointments))
+-- ---- Check 11
 
-passed-12 : (c : tie.Else12) (p : Policy) → Given (start-12 c) p
-    → Passed p (now (start-12 c .args .bytes)) (start-12 c .args .u) (start-12 c .args .q) 12
-passed-12 c p g = pass (passed-11 (back-12 c) p g) (fact-12 (c .before) p g ∙ c .if12 .left)
+fact-11 : (c : tie.After-hand-over)
+    → let d = start-10 (c .before .before .before .before .before) in
+    handOver (d .args .t1) (d .args .u) (d .args .q) ≡ c .hand-over .result
+fact-11 c = sym (c .hand-over .ensures)
 
 returns-12 : tie.Need-returns-12
 returns-12 c =
-    λ p l s a r.
-    let d = c .before .before in
-    let g : Given (start-11 d) p = record { lent = l; sized = s; appointments = a; rules = r } in
-    verdict-stops p _ _ _ 11 (omega arith) (passed-11 d p g)
-    (fact-12 (c .before) p g ∙ c .if12 .taken)
+    verdict-stops _ _ _ _ 10 (omega arith) (passed-10 (c .before .before .before .before))
+    (fact-11 (c .before) ∙ c .if14 .taken)
 
--- ---- And done
+passed-11 : (c : tie.Joined13) → Past (start-10 (c .before .before .before .before)) 11
+passed-11 c =
+    pass
+    (passed-10 (c .before .before))
+    (⊎-elim
+    (λ w. fact-11 (record { before = record { before = c .before; if13 = w .0 }; hand-over = w .1 }) ∙ w .2 .left)
+    (λ w. no-hand-over _ _ _ (sym (c .before .can-hand-over .ensures) ∙ w .left))
+    (c .if13 .came))
+
+-- ---- Check 12, and done
+
+fact-12 : (c : tie.After-orphan)
+    → let d = start-10 (c .before .before .before .before .before .before .before) in
+    orphan (d .args .t1) (d .args .q) ≡ c .orphan .result
+fact-12 c = sym (c .orphan .ensures)
 
 returns-13 : tie.Need-returns-13
 returns-13 c =
-    λ p l s a r.
-    let d = c .before in
-    let g : Given (start-12 d) p = record { lent = l; sized = s; appointments = a; rules = r } in
-    c .done .ensures
-    ∙ ap doneBy (nine-12 d .before .before .permitting-rule .ensures p l r)
-    ∙ done-is p _ _
-    ∙ verdict-done p _ _ _ (passed-12 d p g)
+    verdict-stops _ _ _ _ 11 (omega arith) (passed-11 (c .before .before .before .before))
+    (fact-12 (c .before) ∙ c .if16 .taken)
+
+returns-14 : tie.Need-returns-14
+returns-14 c =
+    let d = c .before .before .before .before in
+    done-by-none _ _ _ (no-use (back-10 (d .before .before .before .before)))
+    ∙ verdict-done _ _ _ _ (pass (passed-11 d) (fact-12 (c .before) ∙ c .if16 .left))
+
+returns-15 : tie.Need-returns-15
+returns-15 c =
+    let d = c .before .before in
+    done-by-none _ _ _ (no-use (back-10 (d .before .before .before .before)))
+    ∙ verdict-done _ _ _ _ (pass (passed-11 d) (no-orphan _ _ (sym (c .before .can-orphan .ensures) ∙ c .if15 .left)))
 
 pub verdict-spec : {M : Type 1} → statement M
 verdict-spec =
@@ -393,9 +328,6 @@ verdict-spec =
     returns-5
     (λ c κs. search needs)
     (λ c κs. search needs)
-    (λ c κs. search needs)
-    (λ c κs. search needs)
-    (λ c κs. search needs)
     returns-6
     (λ c κs. search needs)
     returns-7
@@ -405,11 +337,15 @@ verdict-spec =
     (λ c κs. search needs)
     returns-9
     (λ c κs. search needs)
-    (λ c κs. search needs)
     returns-10
+    (λ c κs. search needs)
     (λ c κs. search needs)
     returns-11
     (λ c κs. search needs)
+    (λ c κs. search needs)
     returns-12
     (λ c κs. search needs)
-    returns-13)
+    (λ c κs. search needs)
+    returns-13
+    returns-14
+    returns-15)

@@ -12,7 +12,7 @@ sized : (c : tie.Start) → Sized (c .args .t1)
 sized c =
     record {
       sorts = search needs;
-      members = search needs;
+      memberships = search needs;
       appointments = search (needs, length-mapped);
       rules = search (needs, length-mapped);
     }
@@ -21,12 +21,12 @@ returns : tie.Need-returns
 returns c =
     let rules = c .before in
     let appointments = rules .before .before in
-    let members = appointments .before .before in
-    let masks = members .before .before .before in
+    let memberships = appointments .before .before in
+    let masks = memberships .before .before .before in
     decides-at
     (rw (← c .orphaned .ensures))
     (sound-decided _ (sized (masks .before)) _ (masks .masks .ensures) _ _ _
-    (members .members-fit .ensures)
+    (memberships .memberships-fit .ensures)
     (appointments .appointments-fit .ensures)
     (rules .rules-fit .ensures))
 

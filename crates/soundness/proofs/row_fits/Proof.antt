@@ -1,4 +1,4 @@
--- An empty row asks nothing, and one with a stray is refused; of any other, only whether g is a group is left.
+-- An empty row asks nothing, and one with a stray is refused; of any other, only whether x is in use is left.
 use native.Mathlib.Omega.{arith}
 use Rattle.reach.proofs.Testing.{decides-at}
 use Rattle.soundness.proofs.Fitting.{always, never, row-none, row-stray, row-in}

@@ -11,7 +11,7 @@ sized : (c : tie.Start) → Sized (c .args .p)
 sized c =
     record {
       sorts = search needs;
-      members = search needs;
+      memberships = search needs;
       appointments = search (needs, length-mapped);
       rules = search (needs, length-mapped);
     }

@@ -8,10 +8,10 @@ use Rattle.export.proofs.drawing.put_rows.Statement.{statement}
 use Rattle.export.proofs.drawing.put_rows.Tie as tie
 
 abbrev Inv-loop : tie.InvT-loop
-Inv-loop out₀ rows g₀ out g = Drawing rowBytes 8 64 rows out₀ out g
+Inv-loop out₀ rows x₀ out x = Drawing rowBytes 8 64 rows out₀ out x
 
 abbrev μ-loop : tie.MeasureT-loop
-μ-loop out₀ rows g₀ out g = 64 - g
+μ-loop out₀ rows x₀ out x = 64 - x
 
 loop-holds : tie.Need-loop-holds Inv-loop μ-loop
 loop-holds c = drawing-start _ _ _ _ _

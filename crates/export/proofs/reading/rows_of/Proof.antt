@@ -8,10 +8,10 @@ use Rattle.export.proofs.reading.rows_of.Statement.{statement}
 use Rattle.export.proofs.reading.rows_of.Tie as tie
 
 abbrev Inv-loop : tie.InvT-loop
-Inv-loop picture rows₀ g₀ rows g = Tabled 64 (rowAt picture) rows g
+Inv-loop picture rows₀ x₀ rows x = Tabled 64 (rowAt picture) rows x
 
 abbrev μ-loop : tie.MeasureT-loop
-μ-loop picture rows₀ g₀ rows g = 64 - g
+μ-loop picture rows₀ x₀ rows x = 64 - x
 
 loop-holds : tie.Need-loop-holds Inv-loop μ-loop
 loop-holds c = tabled-start _ _ _ (search needs)

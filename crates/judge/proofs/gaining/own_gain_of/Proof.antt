@@ -8,8 +8,8 @@ use Rattle.rules.specs.declared.Request.{Request}
 use Rattle.rules.specs.declared.Answer.{Answer}
 use Rattle.rules.specs.Records.{sender, request}
 use Rattle.rules.specs.Judging.{codeOf, judge}
-use Rattle.rows.specs.declared.Gain.{Gain}
-use Rattle.rows.specs.declared.Gain.the-variants.{Nothing}
+use Rattle.gains.specs.declared.Gain.{Gain}
+use Rattle.gains.specs.declared.Gain.the-variants.{Nothing}
 use Rattle.gains.specs.Giving.{FirstPermission}
 use Rattle.judge.specs.Telling.{OwnGainOf}
 use borrow.Author.Needs.{needs}

@@ -1,13 +1,29 @@
--- The policy with the rule of users, targets and operations at place i of its table of rules.
-use mathlib.Core.Path.{ap}
-use Rattle.reach.specs.Successors.{withRules, ruled}
+-- The policy with the place written, and past the table as it is.
+use mathlib.Core.Path.{_≡_}
+use native.Mathlib.Omega.{arith}
+use lib.ListN.{length}
+use Rattle.reach.specs.Successors.{ruled}
+use Rattle.reach.proofs.Lists.{length-mapped, set-past}
 use borrow.Author.Needs.{needs}
 use Rattle.reach.proofs.Policy.granted.Statement.{statement}
 use Rattle.reach.proofs.Policy.granted.Tie as tie
 
 returns : tie.Need-returns
 unfolding ruled
-returns c = ap (withRules (c .before .before .args .self)) (c .ruled-at .ensures)
+returns c =
+    let a = c .before .args in
+    let long : length (a .t1 .rules) ≡ 64 = search (needs, length-mapped) in
+    rw (set-past (a .t1 .rules) (a .i) _ (omega (arith, long, c .if1 .taken)))
+
+returns-2 : tie.Need-returns-2
+unfolding ruled
+returns-2 c = search needs
 
 pub granted-spec : {M : Type 1} → statement M
-granted-spec = tie.close (tie.spec (λ c κs. search needs) returns)
+granted-spec =
+    tie.close
+    (tie.spec
+    returns
+    (λ c. search needs)
+    (λ c. search needs)
+    returns-2)

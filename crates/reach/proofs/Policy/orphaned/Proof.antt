@@ -1,11 +1,19 @@
--- The tables lent are those of the policy itself.
+-- All that is under an A of an owner who is a user is owned; the objects in use are held against it.
 use mathlib.Core.Path.{refl}
+use Rattle.reach.proofs.Deciding.{orphan-decides}
+use Rattle.reach.proofs.Meeting.{owned-below}
 use borrow.Author.Needs.{needs}
 use Rattle.reach.proofs.Policy.orphaned.Statement.{statement}
 use Rattle.reach.proofs.Policy.orphaned.Tie as tie
 
 returns : tie.Need-returns
-returns c = c .orphaned .ensures _ (record { rows = refl; masks = c .before .before .before .before .masks .ensures }) refl
+returns c =
+    let d = c .before in
+    let f = d .before .before .before in
+    let m = f .before .before .masks .ensures in
+    orphan-decides _
+    (m .objects)
+    (owned-below _ (m .users) (f .owned-from .ensures) (d .descend .ensures _ (record { rows = refl; masks = m })))
 
 pub orphaned-spec : {M : Type 1} → statement M
-orphaned-spec = tie.close (tie.spec (λ c κs. search needs) (λ c κs. search needs) returns)
+orphaned-spec = tie.close (tie.spec (λ c κs. search needs) (λ c κs. search needs) (λ c κs. search needs) returns)

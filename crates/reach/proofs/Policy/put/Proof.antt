@@ -1,15 +1,35 @@
--- The policy with x put directly into g in its table of members.
-use mathlib.Core.Path.{ap, _∙_}
-use Rattle.reach.specs.Successors.{withMembers}
-use Rattle.reach.proofs.TableByTable.{put-is}
+-- On the table the machine's word is the set with g, and past it nothing changes.
+use borrow.Author.Tests.{lt-ltb, le-ltb}
+use Rattle.reach.specs.Successors.{put}
+use Rattle.reach.proofs.OneBit.{or-is-with}
 use borrow.Author.Needs.{needs}
 use Rattle.reach.proofs.Policy.put.Statement.{statement}
 use Rattle.reach.proofs.Policy.put.Tie as tie
 
 returns : tie.Need-returns
-returns c =
-    let a = c .before .before .args in
-    ap (withMembers (a .self)) (c .put-into .ensures) ∙ put-is (a .self) (a .x) (a .g)
+unfolding put
+returns c = rw (le-ltb _ _ (c .if1 .taken))
+
+returns-2 : tie.Need-returns-2
+unfolding put
+returns-2 c = rw (lt-ltb _ _ (c .before .if1 .left), le-ltb _ _ (c .if2 .taken))
+
+returns-3 : tie.Need-returns-3
+unfolding put
+returns-3 c =
+    let t = c .before in
+    let a = t .before .before .args in
+    rw (lt-ltb _ _ (t .before .if1 .left), lt-ltb _ _ (t .if2 .left), or-is-with (a .g) _ (search needs))
 
 pub put-spec : {M : Type 1} → statement M
-put-spec = tie.close (tie.spec (λ c κs. search needs) returns)
+put-spec =
+    tie.close
+    (tie.spec
+    returns
+    returns-2
+    (λ c. search needs)
+    (λ c. search needs)
+    (λ c. search needs)
+    (λ c. search needs)
+    (λ c. search needs)
+    returns-3)

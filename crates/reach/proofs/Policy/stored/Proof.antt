@@ -1,4 +1,4 @@
--- `stored` is its definition: the bit of row g, and past the end of the table there is none.
+-- `stored` is its definition: the bit of row x, and past the end of the table there is none.
 use mathlib.Core.Path.{_≡_}
 use native.Mathlib.Omega.{arith}
 use lib.ListN.{length}
@@ -18,8 +18,8 @@ returns-2 : tie.Need-returns-2
 unfolding stored has
 returns-2 c =
     let a = c .before .args in
-    let long : length (a .t1 .members) ≡ 64 = search needs in
-    rw (getD-past (a .t1 .members) (a .g) 0 (omega (arith, long, c .if1 .left)), bit-zero)
+    let long : length (a .t1 .memberships) ≡ 64 = search needs in
+    rw (getD-past (a .t1 .memberships) (a .x) 0 (omega (arith, long, c .if1 .left)), bit-zero)
 
 pub stored-spec : {M : Type 1} → statement M
 stored-spec = tie.close (tie.spec (λ c. search needs) (λ c. search needs) (λ c κs. search needs) returns returns-2)

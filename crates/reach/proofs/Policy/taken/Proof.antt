@@ -1,15 +1,39 @@
--- The policy with x taken out of g in its table of members.
-use mathlib.Core.Path.{ap, _∙_}
-use Rattle.reach.specs.Successors.{withMembers}
-use Rattle.reach.proofs.TableByTable.{taken-is}
+-- On the table the machine's word is the set without g, and past it nothing changes.
+use borrow.Author.Tests.{lt-ltb, le-ltb}
+use lib.ListN.{getD}
+use mir.Syntax.{w64}
+use mir.Val.{Fits}
+use Rattle.reach.specs.Successors.{taken}
+use Rattle.reach.proofs.OneBit.{and-is-without}
 use borrow.Author.Needs.{needs}
 use Rattle.reach.proofs.Policy.taken.Statement.{statement}
 use Rattle.reach.proofs.Policy.taken.Tie as tie
 
 returns : tie.Need-returns
-returns c =
-    let a = c .before .before .args in
-    ap (withMembers (a .self)) (c .taken-from .ensures) ∙ taken-is (a .self) (a .x) (a .g)
+unfolding taken
+returns c = rw (le-ltb _ _ (c .if1 .taken))
+
+returns-2 : tie.Need-returns-2
+unfolding taken
+returns-2 c = rw (lt-ltb _ _ (c .before .if1 .left), le-ltb _ _ (c .if2 .taken))
+
+returns-3 : tie.Need-returns-3
+unfolding taken
+returns-3 c =
+    let t = c .before in
+    let a = t .before .before .args in
+    let fits : Fits w64 (getD (a .t1 .memberships) (a .x) 0) = search needs in
+    rw (lt-ltb _ _ (t .before .if1 .left), lt-ltb _ _ (t .if2 .left), and-is-without (a .g) (getD (a .t1 .memberships) (a .x) 0) (search needs) (fits .fits))
 
 pub taken-spec : {M : Type 1} → statement M
-taken-spec = tie.close (tie.spec (λ c κs. search needs) returns)
+taken-spec =
+    tie.close
+    (tie.spec
+    returns
+    returns-2
+    (λ c. search needs)
+    (λ c. search needs)
+    (λ c. search needs)
+    (λ c. search needs)
+    (λ c. search needs)
+    returns-3)

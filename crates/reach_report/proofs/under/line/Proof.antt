@@ -28,8 +28,6 @@ line-spec =
     (λ c. search needs)
     (λ c κs. search needs)
     (λ c κs. search needs)
-    (λ c κs. search needs)
-    (λ c κs. search needs)
     loop-holds
     (λ c κs. search needs)
     (λ c κs. search needs)

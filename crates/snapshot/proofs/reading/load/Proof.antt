@@ -12,11 +12,11 @@ use Rattle.snapshot.proofs.reading.load.Statement.{statement}
 use Rattle.snapshot.proofs.reading.load.Tie as tie
 
 abbrev Inv-loop : tie.InvT-loop
-Inv-loop kept card sorts₀ members₀ appointments₀ rules₀ n₀ at₀ sorts members appointments rules n at =
-    PartRead kept card (tabled sorts members appointments rules) n at
+Inv-loop kept card sorts₀ memberships₀ appointments₀ rules₀ n₀ at₀ sorts memberships appointments rules n at =
+    PartRead kept card (tabled sorts memberships appointments rules) n at
 
 abbrev μ-loop : tie.MeasureT-loop
-μ-loop kept card sorts₀ members₀ appointments₀ rules₀ n₀ at₀ sorts members appointments rules n at =
+μ-loop kept card sorts₀ memberships₀ appointments₀ rules₀ n₀ at₀ sorts memberships appointments rules n at =
     length card - at
 
 loop-holds : tie.Need-loop-holds Inv-loop μ-loop
@@ -120,7 +120,7 @@ loop-again c =
       c .before .rule-after .ensures,
       c .before .before .before .rule-place .ensures .0,
     )
-    (store-tabled (o .sorts) (o .members) (o .appointments) (o .rules) (i .before .before .front .result) valid))
+    (store-tabled (o .sorts) (o .memberships) (o .appointments) (o .rules) (i .before .before .front .result) valid))
 
 returns-3 : tie.Need-returns-3 Inv-loop μ-loop
 returns-3 c = loading-end (c .before .loop .inv) (c .loop-test .left)

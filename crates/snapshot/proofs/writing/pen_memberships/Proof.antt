@@ -1,47 +1,37 @@
--- Object by object: the rows of the objects below x are penned, each by the set of its groups, which says what the members say.
+-- Object by object: the rows of the objects below x are penned, each by the set of its groups.
 use Prim.Native.Nat.{_-_}
 use native.Mathlib.Omega.{arith}
 use lib.ListN.{getD}
-use Rattle.reach.specs.Words.{has}
-use Rattle.snapshot.specs.Card.{bytesOf, membershipOf, from}
+use Rattle.snapshot.specs.Writing.{rowOf}
 use Rattle.snapshot.proofs.Penning.{penned-as, Penning, penning-rows, penning-next}
 use Rattle.snapshot.proofs.Penning.{penning-end, penning-needed, penning-length, memberships-are}
-use Rattle.snapshot.proofs.Anywhere.{nowhere}
-use Rattle.snapshot.proofs.Rowing.{row-is}
 use borrow.Author.Needs.{needs}
 use Rattle.snapshot.proofs.writing.pen_memberships.Statement.{statement}
 use Rattle.snapshot.proofs.writing.pen_memberships.Tie as tie
 
 abbrev Inv-loop : tie.InvT-loop
-Inv-loop out₀ members anywhere so-far₀ x₀ out so-far x =
-    Penning 576 64 out₀ so-far₀ (λ y. from 64 0 (λ g. bytesOf (membershipOf (has (getD members g 0) y) y g))) x out so-far
+Inv-loop out₀ p so-far₀ x₀ out so-far x =
+    Penning 576 64 out₀ so-far₀ (λ y. rowOf (getD (p .memberships) y 0) y) x out so-far
 
 abbrev μ-loop : tie.MeasureT-loop
-μ-loop out₀ members anywhere so-far₀ x₀ out so-far x = 64 - x
+μ-loop out₀ p so-far₀ x₀ out so-far x = 64 - x
 
 loop-holds : tie.Need-loop-holds Inv-loop μ-loop
-loop-holds c = penning-rows 64 _ _ (c .before .before .before .before .args .p .members)
-
-groups-of-requires : tie.Need-groups-of-requires Inv-loop μ-loop
-groups-of-requires c κs =
-    let anywhere = c .before .before .before .before in nowhere _ (search needs) _ _ _ (anywhere .stored-anywhere .ensures) (c .has .ensures)
+loop-holds c = penning-rows 64 _ _ (c .before .args .t1 .memberships)
 
 pen-row-requires : tie.Need-pen-row-requires Inv-loop μ-loop
 pen-row-requires c κs =
-    let t = c .before .before .before .before in
+    let t = c .before .before in
     let few = penning-needed (t .before .loop .inv) in
-    omega (arith, few, t .before .loop .inv .within, t .before .before .before .before .before .before .pre)
+    omega (arith, few, t .before .loop .inv .within, t .before .before .before .pre)
 
 loop-less : tie.Need-loop-less Inv-loop μ-loop
-loop-less c = let t = c .before .before .before .before .before .before .before in omega (arith, t .loop-test .taken)
+loop-less c = let t = c .before .before .before .before .before in omega (arith, t .loop-test .taken)
 
 loop-again : tie.Need-loop-again Inv-loop μ-loop
 loop-again c =
-    let g = c .before .before .before .before in
-    let t = g .before .before .before in
-    let start = t .before .before .before .before .before .before in
-    penning-next (t .before .loop .inv) (t .loop-test .taken)
-    (penned-as (row-is (start .args .p .members) _ (t .before .loop .x) (g .groups-of .ensures)) (c .before .before .pen-row .ensures))
+    let t = c .before .before .before .before .before in
+    penning-next (t .before .loop .inv) (t .loop-test .taken) (c .before .before .pen-row .ensures)
 
 same-length : tie.Need-same-length Inv-loop μ-loop
 same-length c = penning-length (c .before .loop .inv)
@@ -55,10 +45,10 @@ pen-memberships-spec =
     (tie.spec
     Inv-loop
     μ-loop
-    (λ c κs. search needs)
     loop-holds
-    (λ c κs. search needs)
-    groups-of-requires
+    (λ c. search needs)
+    (λ c. search needs)
+    (λ c. search needs)
     pen-row-requires
     (λ c. search needs)
     loop-less

@@ -1,2 +1,0 @@
--- Which rule permits a request.
-pub mod Permitting

@@ -1,2 +1,0 @@
--- What a request names.
-pub mod Naming

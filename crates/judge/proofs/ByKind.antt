@@ -1,0 +1,91 @@
+-- A check that cannot apply to requests of a kind does not: kind by kind, by the definition of the check.
+use mathlib.Core.Path.{_≡_, refl, sym, ap, _∙_}
+use mathlib.Core.Bool.{Bool, true, false, not, true≢false, false≢true}
+use Prim.Native.Nat.{ℕ}
+use Rattle.reach.specs.declared.Policy.{Policy}
+use Rattle.reach.specs.declared.Place.{Place}
+use Rattle.reach.specs.declared.Place.the-variants.{At, Nothing}
+use Rattle.reach.specs.Tests.{_⇒_∥_}
+use Rattle.reach.specs.Privileges.{permitted, permitting}
+use Rattle.reach.proofs.Deciding.{permitted-at, permitted-nothing}
+use Rattle.rules.specs.declared.Request.{Request}
+use Rattle.rules.specs.declared.Request.the-variants.{Make, Put, Take, Appoint, Dismiss, Grant, Withdraw, Use}
+use Rattle.rules.specs.declared.Verdict.the-variants.{Done, NoAuthority}
+use Rattle.rules.specs.Authority.{may}
+use Rattle.rules.specs.Refusals.{noAuthority, ownGain, handOver, orphan}
+use Rattle.rules.specs.Judging.{doneBy, done}
+use Rattle.judge.specs.Kind.{isUse, canGain, canHandOver, canOrphan}
+use Rattle.judge.specs.Using.{usedBy}
+
+-- What is said of the kind of a request is said of one that is equal.
+pub same-kind : {q n : Request} {b : Bool} → q ≡ n → isUse q ≡ b → isUse n ≡ b
+same-kind e f = ap isUse (sym e) ∙ f
+
+pub no-orphan : (p : Policy) (q : Request) → canOrphan q ≡ false → orphan p q ≡ false
+unfolding orphan
+no-orphan p (Make i s g) e = refl
+no-orphan p (Put x g) e = refl
+no-orphan p (Take x g) e = absurd (true≢false e)
+no-orphan p (Appoint i k h a b) e = refl
+no-orphan p (Dismiss i) e = absurd (true≢false e)
+no-orphan p (Grant i v t o) e = refl
+no-orphan p (Withdraw i) e = refl
+no-orphan p (Use x k) e = refl
+
+module _ (p : Policy) (u : ℕ) where
+  pub no-own-gain : (q : Request) → canGain q ≡ false → ownGain p u q ≡ false
+  unfolding ownGain
+  no-own-gain (Make i s g) e = refl
+  no-own-gain (Put x g) e = absurd (true≢false e)
+  no-own-gain (Take x g) e = refl
+  no-own-gain (Appoint i k h a b) e = absurd (true≢false e)
+  no-own-gain (Dismiss i) e = refl
+  no-own-gain (Grant i v t o) e = absurd (true≢false e)
+  no-own-gain (Withdraw i) e = refl
+  no-own-gain (Use x k) e = refl
+
+  pub no-hand-over : (q : Request) → canHandOver q ≡ false → handOver p u q ≡ false
+  unfolding handOver
+  no-hand-over (Make i s g) e = refl
+  no-hand-over (Put x g) e = absurd (true≢false e)
+  no-hand-over (Take x g) e = refl
+  no-hand-over (Appoint i k h a b) e = refl
+  no-hand-over (Dismiss i) e = refl
+  no-hand-over (Grant i v t o) e = refl
+  no-hand-over (Withdraw i) e = refl
+  no-hand-over (Use x k) e = refl
+
+  -- What is no USE is done by no rule.
+  pub done-by-none : (q : Request) → isUse q ≡ false → Done ≡ done p u q
+  unfolding done
+  done-by-none (Make i s g) e = refl
+  done-by-none (Put x g) e = refl
+  done-by-none (Take x g) e = refl
+  done-by-none (Appoint i k h a b) e = refl
+  done-by-none (Dismiss i) e = refl
+  done-by-none (Grant i v t o) e = refl
+  done-by-none (Withdraw i) e = refl
+  done-by-none (Use x k) e = absurd (true≢false e)
+
+  -- A USE can fail none of the checks after the ninth.
+  pub use-passes : (q : Request) → isUse q ≡ true
+      → ((ownGain p u q ≡ false) × (handOver p u q ≡ false)) × (orphan p q ≡ false)
+  unfolding ownGain handOver orphan
+  use-passes (Make i s g) e = absurd (false≢true e)
+  use-passes (Put x g) e = absurd (false≢true e)
+  use-passes (Take x g) e = absurd (false≢true e)
+  use-passes (Appoint i k h a b) e = absurd (false≢true e)
+  use-passes (Dismiss i) e = absurd (false≢true e)
+  use-passes (Grant i v t o) e = absurd (false≢true e)
+  use-passes (Withdraw i) e = absurd (false≢true e)
+  use-passes (Use x k) e = ((refl, refl), refl)
+
+  -- The rule that is found says of a USE whether its sender has the authority, and is the one that is cited.
+  pub used-is : (x k : ℕ) → usedBy (permitting p u k x) ≡ (noAuthority p u (Use x k) ⇒ NoAuthority ∥ done p u (Use x k))
+  unfolding noAuthority may done
+  used-is x k = go (permitting p u k x) refl
+    where
+      go : (w : Place) → permitting p u k x ≡ w
+          → usedBy w ≡ (not (permitted p u k x) ⇒ NoAuthority ∥ doneBy (permitting p u k x))
+      go (At i) e = rw (permitted-at p u k x i e, e)
+      go Nothing e = rw (permitted-nothing p u k x e)

@@ -1,0 +1,47 @@
+-- Which checks a request of each kind can fail, by its kind alone.
+use mathlib.Core.Bool.{Bool, true, false}
+use Rattle.rules.specs.declared.Request.{Request}
+use Rattle.rules.specs.declared.Request.the-variants.{Make, Put, Take, Appoint, Dismiss, Grant, Withdraw, Use}
+
+abbrev pub isUse : Request → Bool
+isUse (Make i s g) = false
+isUse (Put x g) = false
+isUse (Take x g) = false
+isUse (Appoint i k h a b) = false
+isUse (Dismiss i) = false
+isUse (Grant i u t o) = false
+isUse (Withdraw i) = false
+isUse (Use x k) = true
+
+-- A request of this kind can give its sender a holding (check 10).
+abbrev pub canGain : Request → Bool
+canGain (Make i s g) = false
+canGain (Put x g) = true
+canGain (Take x g) = false
+canGain (Appoint i k h a b) = true
+canGain (Dismiss i) = false
+canGain (Grant i u t o) = true
+canGain (Withdraw i) = false
+canGain (Use x k) = false
+
+-- It can hand something over (check 11).
+abbrev pub canHandOver : Request → Bool
+canHandOver (Make i s g) = false
+canHandOver (Put x g) = true
+canHandOver (Take x g) = false
+canHandOver (Appoint i k h a b) = false
+canHandOver (Dismiss i) = false
+canHandOver (Grant i u t o) = false
+canHandOver (Withdraw i) = false
+canHandOver (Use x k) = false
+
+-- It can leave an object without an owner (check 12).
+abbrev pub canOrphan : Request → Bool
+canOrphan (Make i s g) = false
+canOrphan (Put x g) = false
+canOrphan (Take x g) = true
+canOrphan (Appoint i k h a b) = false
+canOrphan (Dismiss i) = true
+canOrphan (Grant i u t o) = false
+canOrphan (Withdraw i) = false
+canOrphan (Use x k) = false

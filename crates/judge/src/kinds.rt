@@ -1,0 +1,69 @@
+// Which checks a request of each kind can fail, by its kind alone: a check that it cannot fail is not asked, and the policy
+// is not handed on to it.
+ghost use mathlib.Core.Path.{_≡_};
+ghost use Rattle.judge.specs.Kind.{isUse, canGain, canHandOver, canOrphan};
+use rules::Request;
+
+// Whether it is a USE.
+pub fn is_use(q: Request) -> bool
+    ensures { λ r. ⌜ r ≡ isUse q ⌝ }
+{
+    match q {
+        Request::Make { .. } => false,
+        Request::Put { .. } => false,
+        Request::Take { .. } => false,
+        Request::Appoint { .. } => false,
+        Request::Dismiss { .. } => false,
+        Request::Grant { .. } => false,
+        Request::Withdraw { .. } => false,
+        Request::Use { .. } => true,
+    }
+}
+
+// Whether it can give its sender a holding (check 10).
+pub fn can_gain(q: Request) -> bool
+    ensures { λ r. ⌜ r ≡ canGain q ⌝ }
+{
+    match q {
+        Request::Make { .. } => false,
+        Request::Put { .. } => true,
+        Request::Take { .. } => false,
+        Request::Appoint { .. } => true,
+        Request::Dismiss { .. } => false,
+        Request::Grant { .. } => true,
+        Request::Withdraw { .. } => false,
+        Request::Use { .. } => false,
+    }
+}
+
+// Whether it can hand something over (check 11).
+pub fn can_hand_over(q: Request) -> bool
+    ensures { λ r. ⌜ r ≡ canHandOver q ⌝ }
+{
+    match q {
+        Request::Make { .. } => false,
+        Request::Put { .. } => true,
+        Request::Take { .. } => false,
+        Request::Appoint { .. } => false,
+        Request::Dismiss { .. } => false,
+        Request::Grant { .. } => false,
+        Request::Withdraw { .. } => false,
+        Request::Use { .. } => false,
+    }
+}
+
+// Whether it can leave an object without an owner (check 12).
+pub fn can_orphan(q: Request) -> bool
+    ensures { λ r. ⌜ r ≡ canOrphan q ⌝ }
+{
+    match q {
+        Request::Make { .. } => false,
+        Request::Put { .. } => false,
+        Request::Take { .. } => true,
+        Request::Appoint { .. } => false,
+        Request::Dismiss { .. } => true,
+        Request::Grant { .. } => false,
+        Request::Withdraw { .. } => false,
+        Request::Use { .. } => false,
+    }
+}

@@ -1,0 +1,89 @@
+-- What is asked of single tables, lent or handed on: the questions of a policy read no more than these.
+use mathlib.Core.Path.{_≡_}
+use mathlib.Core.Bool.{Bool, true, _&&_}
+use mathlib.Core.List.{List, []}
+use Prim.Native.Nat.{ℕ, _<_}
+use lib.ListN.{getD}
+use Rattle.reach.specs.declared.Policy.{Policy}
+use Rattle.reach.specs.declared.Appointment.{Appointment}
+use Rattle.reach.specs.declared.AccessRule.{AccessRule}
+use Rattle.reach.specs.declared.Posts.{Posts}
+use Rattle.reach.specs.Words.{bit, has, SetOf}
+use Rattle.reach.specs.Tests.{Some}
+use Rattle.reach.specs.Tables.{noAppointment, View, view}
+use Rattle.reach.specs.Reach.{User, Under}
+use Rattle.reach.specs.Privileges.{owner, manager, administrator}
+
+-- ---- Reach
+
+-- The policy with these sorts and memberships, and no appointment or rule: reach depends on nothing else.
+abbrev pub reachOf : List ℕ → List ℕ → Policy
+reachOf sorts memberships = record { sorts = sorts; memberships = memberships; appointments = []; rules = [] }
+
+-- x is under g by these sorts and memberships.
+abbrev pub UnderBy : List ℕ → List ℕ → ℕ → ℕ → Type 0
+UnderBy sorts memberships x g = Under (view (reachOf sorts memberships)) x g
+
+-- The row of some number of the set has g.
+abbrev pub Joined : List ℕ → ℕ → ℕ → Type 0
+Joined rows set g = Some 64 (λ y. (bit set y ≡ 1) × (bit (getD rows y 0) g ≡ 1))
+
+-- ---- Appointments
+
+-- u holds this appointment, it is of that kind, and a is its A.
+pub record HasA (w : Appointment) (kind u a : ℕ) : Type 0 where
+  pub is-kind : w .kind ≡ kind
+  pub is-holder : w .holder ≡ u
+  pub is-a : w .a ≡ a
+
+-- The number a of an object is the A of an appointment of that kind that u holds.
+pub record AppointedOver (l : List Appointment) (kind u a : ℕ) : Type 0 where
+  pub low : a < 64
+  pub by : Some 32 (λ i. HasA (getD l i noAppointment) kind u a)
+
+pub record PostsIn (l : List Appointment) (u : ℕ) (r : Posts) : Type 0 where
+  pub owner : SetOf (r .owner) (AppointedOver l owner u)
+  pub manager : SetOf (r .manager) (AppointedOver l manager u)
+
+-- The same of a policy: who is no user holds nothing (D5).
+pub record HeldOver (v : View) (kind u a : ℕ) : Type 0 where
+  pub user : User v u
+  pub low : a < 64
+  pub by : Some 32 (λ i. HasA (v .appointment i) kind u a)
+
+pub record PostsOf (v : View) (u : ℕ) (r : Posts) : Type 0 where
+  pub owner : SetOf (r .owner) (HeldOver v owner u)
+  pub manager : SetOf (r .manager) (HeldOver v manager u)
+
+-- u holds this administrator's appointment, its A is in the one set and its B in the other.
+pub record CoversPair (w : Appointment) (u first second : ℕ) : Type 0 where
+  pub is-kind : w .kind ≡ administrator
+  pub is-holder : w .holder ≡ u
+  pub in-a : bit first (w .a) ≡ 1
+  pub in-b : bit second (w .b) ≡ 1
+
+-- The same with b for its B.
+pub record HasB (w : Appointment) (u first b : ℕ) : Type 0 where
+  pub is-kind : w .kind ≡ administrator
+  pub is-holder : w .holder ≡ u
+  pub in-a : bit first (w .a) ≡ 1
+  pub is-b : w .b ≡ b
+
+-- The number a of an object is the A of an owner's appointment that one of these users holds.
+pub record OwnersA (w : Appointment) (users a : ℕ) : Type 0 where
+  pub is-kind : w .kind ≡ owner
+  pub is-user : bit users (w .holder) ≡ 1
+  pub is-a : w .a ≡ a
+
+-- ---- Rules
+
+-- The rule is in use, has the operation, and its U and T are in the sets.
+unfoldable pub coveredBy : AccessRule → ℕ → ℕ → ℕ → Bool
+coveredBy r k users targets = r .used && has (r .operations) k && has users (r .users) && has targets (r .targets)
+
+-- The rule is in use, has the operation, its U is in the set, and t is its T.
+pub record HasT (r : AccessRule) (k users t : ℕ) : Type 0 where
+  pub used : r .used ≡ true
+  pub operation : bit (r .operations) k ≡ 1
+  pub in-u : bit users (r .users) ≡ 1
+  pub is-t : r .targets ≡ t

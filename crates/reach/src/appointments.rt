@@ -1,0 +1,121 @@
+// What is read of the appointments alone.
+ghost use Prim.Native.Nat.{_<_};
+ghost use lib.ListN.{getD};
+ghost use Rattle.reach.specs.Words.{SetOf};
+ghost use Rattle.reach.specs.Tests.{Some, Decides};
+ghost use Rattle.reach.specs.Tables.{noAppointment};
+ghost use Rattle.reach.specs.Asking.{HasA, PostsIn, CoversPair, HasB, OwnersA};
+use crate::Appointment;
+use crate::Posts;
+use crate::sets::has;
+use crate::sets::just;
+
+// The A of this appointment, if it is of that kind and u holds it. The holder is looked at first: most appointments are another's.
+fn a_of(w: Appointment, kind: u8, u: u8) -> u64
+    ensures { λ r. ⌜ SetOf r (λ a. (a < 64) × HasA w kind u a) ⌝ }
+{
+    if w.holder != u {
+        return 0;
+    }
+    if w.kind != kind {
+        return 0;
+    }
+    just(w.a)
+}
+
+// What u is appointed over, as an owner and as a manager.
+pub fn posts_of(appointments: [Appointment; 32], u: u8) -> Posts
+    ensures { λ r. ⌜ PostsIn appointments u r ⌝ }
+{
+    let mut owner: u64 = 0;
+    let mut manager: u64 = 0;
+    let mut i: usize = 0;
+    while i < 32 {
+        owner |= a_of(appointments[i], 1, u);
+        manager |= a_of(appointments[i], 2, u);
+        i += 1;
+    }
+    Posts { owner, manager }
+}
+
+// Whether this appointment, if it is an administrator's and u holds it, has its A in the one set and its B in the other.
+fn covers(w: Appointment, u: u8, first: u64, second: u64) -> bool
+    ensures { λ r. ⌜ Decides r (CoversPair w u first second) ⌝ }
+{
+    if w.holder != u {
+        return false;
+    }
+    if w.kind != 3 {
+        return false;
+    }
+    has(first, w.a) & has(second, w.b)
+}
+
+// Whether one of u's administrator's appointments does.
+pub fn covers_pair(appointments: [Appointment; 32], u: u8, first: u64, second: u64) -> bool
+    ensures { λ r. ⌜ Decides r (Some 32 (λ i. CoversPair (getD appointments i noAppointment) u first second)) ⌝ }
+{
+    let mut i: usize = 0;
+    while i < 32 {
+        if covers(appointments[i], u, first, second) {
+            return true;
+        }
+        i += 1;
+    }
+    false
+}
+
+// The B of this appointment, if it is an administrator's, u holds it, and its A is in the set.
+fn b_of(w: Appointment, u: u8, first: u64) -> u64
+    ensures { λ r. ⌜ SetOf r (λ b. (b < 64) × HasB w u first b) ⌝ }
+{
+    if w.holder != u {
+        return 0;
+    }
+    if w.kind != 3 {
+        return 0;
+    }
+    if !has(first, w.a) {
+        return 0;
+    }
+    just(w.b)
+}
+
+// The Bs of u's administrator's appointments whose A is in the set.
+pub fn partners_of(appointments: [Appointment; 32], u: u8, first: u64) -> u64
+    ensures { λ r. ⌜ SetOf r (λ b. Some 32 (λ i. (b < 64) × HasB (getD appointments i noAppointment) u first b)) ⌝ }
+{
+    let mut set: u64 = 0;
+    let mut i: usize = 0;
+    while i < 32 {
+        set |= b_of(appointments[i], u, first);
+        i += 1;
+    }
+    set
+}
+
+// The A of this appointment, if it is an owner's and one of these users holds it.
+fn owners_a(w: Appointment, users: u64) -> u64
+    ensures { λ r. ⌜ SetOf r (λ a. (a < 64) × OwnersA w users a) ⌝ }
+{
+    if w.kind != 1 {
+        return 0;
+    }
+    if !has(users, w.holder) {
+        return 0;
+    }
+    just(w.a)
+}
+
+// The As of all owners' appointments that one of these users holds.
+pub fn owned_from(appointments: [Appointment; 32], users: u64) -> u64
+    ensures { λ r. ⌜ SetOf r (λ a. Some 32 (λ i. (a < 64) × OwnersA (getD appointments i noAppointment) users a)) ⌝ }
+{
+    let mut set: u64 = 0;
+    let mut i: usize = 0;
+    while i < 32 {
+        set |= owners_a(appointments[i], users);
+        i += 1;
+    }
+    set
+}
