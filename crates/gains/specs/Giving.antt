@@ -4,7 +4,11 @@ use Rattle.reach.specs.declared.Policy.{Policy}
 use Rattle.reach.specs.Tables.{view}
 use Rattle.reach.specs.Reach.{InUse}
 use Rattle.reach.specs.Privileges.{Permitted}
+use Rattle.reach.specs.Tests.{_⇒_∥_}
 use Rattle.rules.specs.declared.Request.{Request}
+use Rattle.rules.specs.declared.Verdict.{Verdict}
+use Rattle.rules.specs.declared.Verdict.the-variants.{Done, OwnGain, HandOver}
+use Rattle.rules.specs.Refusals.{ownGain, handOver}
 use Rattle.rules.specs.Doing.{after}
 use Rattle.gains.specs.declared.Gain.{Gain}
 use Rattle.gains.specs.declared.Gain.the-variants.{Permission, Nothing}
@@ -15,6 +19,10 @@ pub record ComesToUse (p : Policy) (u : ℕ) (q : Request) (x k : ℕ) : Type 0 
   pub there : InUse (view p) x
   pub has : Permitted (view (after p q)) u k x
   pub lacked : Permitted (view p) u k x → ⊥
+
+-- Checks 10 and 11, in their order.
+abbrev pub givenBy : Policy → ℕ → Request → Verdict
+givenBy p u q = ownGain p u q ⇒ OwnGain ∥ handOver p u q ⇒ HandOver ∥ Done
 
 -- [01:runner.4] "The search for a permit that the sender would gain goes through gear and operations and stops at the first found.": the
 -- first permission that u would gain, target by target and operation by operation, or that there is none.

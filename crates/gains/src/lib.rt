@@ -7,6 +7,7 @@ mod putting;
 mod searching;
 
 pub use handing::hand_over;
+pub use own::giving;
 pub use own::own_gain;
 pub use searching::gained;
 

@@ -3,9 +3,11 @@ ghost use mathlib.Core.Path.{_≡_};
 ghost use Rattle.rules.specs.declared.Request.the-variants.{Grant};
 ghost use Rattle.rules.specs.Allowing.{appointing};
 ghost use Rattle.rules.specs.Refusals.{ownGain};
+ghost use Rattle.gains.specs.Giving.{givenBy};
 use crate::Gain;
 use crate::granting::granted;
 use crate::granting::spread;
+use crate::handing::hand_over;
 use crate::putting::put_gains;
 use crate::searching::first_fresh;
 use crate::searching::worth;
@@ -17,6 +19,7 @@ use reach::has;
 use reach::just;
 use reach::sort_in;
 use rules::Request;
+use rules::Verdict;
 
 // APPOINT gives its sender something exactly if he appoints himself to what he lacks.
 fn appoint_gains(p: Policy, u: u8, place: u8, w: Appointment) -> bool
@@ -61,6 +64,19 @@ fn grant_gains(p: Policy, u: u8, place: u8, rule: AccessRule) -> bool
         Gain::Permission(y, k) => true,
         Gain::Nothing => false,
     }
+}
+
+// Checks 10 and 11: own gain or hand-over, whichever is first, and else done.
+pub fn giving(p: Policy, u: u8, q: Request) -> Verdict
+    ensures { λ r. ⌜ r ≡ givenBy p u q ⌝ }
+{
+    if own_gain(p, u, q) {
+        return Verdict::OwnGain;
+    }
+    if hand_over(p, u, q) {
+        return Verdict::HandOver;
+    }
+    Verdict::Done
 }
 
 // Check 10.

@@ -8,11 +8,13 @@ use Rattle.reach.specs.declared.Policy.{Policy}
 use Rattle.reach.specs.declared.Appointment.{Appointment}
 use Rattle.reach.specs.declared.AccessRule.{AccessRule}
 use Rattle.reach.specs.declared.Posts.{Posts}
+use Rattle.reach.specs.declared.Over.{Over}
+use Rattle.reach.specs.declared.Held.{Held}
 use Rattle.reach.specs.Words.{bit, has, SetOf}
 use Rattle.reach.specs.Tests.{Some}
 use Rattle.reach.specs.Tables.{noAppointment, View, view}
-use Rattle.reach.specs.Reach.{User, Under}
-use Rattle.reach.specs.Privileges.{owner, manager, administrator}
+use Rattle.reach.specs.Reach.{User, Under, direct}
+use Rattle.reach.specs.Privileges.{owner, manager, administrator, owns, manages, administers}
 
 -- ---- Reach
 
@@ -87,3 +89,13 @@ pub record HasT (r : AccessRule) (k users t : ℕ) : Type 0 where
   pub operation : bit (r .operations) k ≡ 1
   pub in-u : bit users (r .users) ≡ 1
   pub is-t : r .targets ≡ t
+
+-- ---- Two objects at once
+
+-- What u holds over x.
+abbrev pub overOf : Policy → ℕ → ℕ → Over
+overOf p u x = record { owned = owns p u x; managed = manages p u x }
+
+-- What he holds over x and over y, whether he administers the pair, and whether x is directly in y.
+abbrev pub heldOf : Policy → ℕ → ℕ → ℕ → Held
+heldOf p u x y = record { first = overOf p u x; second = overOf p u y; pair = administers p u x y; direct = direct p x y }

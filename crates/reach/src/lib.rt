@@ -65,3 +65,17 @@ pub struct Posts {
     pub owner: u64,
     pub manager: u64,
 }
+
+// Whether a user owns an object, and whether he manages it.
+pub struct Over {
+    pub owned: bool,
+    pub managed: bool,
+}
+
+// What a user holds over two objects, and over the pair of them, and whether the one is directly in the other.
+pub struct Held {
+    pub first: Over,
+    pub second: Over,
+    pub pair: bool,
+    pub direct: bool,
+}

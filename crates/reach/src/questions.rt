@@ -5,7 +5,9 @@ ghost use Rattle.reach.specs.Words.{SetOf};
 ghost use Rattle.reach.specs.Tables.{view};
 ghost use Rattle.reach.specs.Privileges.{Owns, Manages, Administers, Permitted};
 ghost use Rattle.reach.specs.Privileges.{owns, manages, administers, permitting, orphaned};
-ghost use Rattle.reach.specs.Asking.{PostsOf};
+ghost use Rattle.reach.specs.Asking.{PostsOf, heldOf};
+use crate::Held;
+use crate::Over;
 use crate::Place;
 use crate::Policy;
 use crate::Posts;
@@ -76,6 +78,27 @@ impl Policy {
         let appointments = self.appointments;
         let posts = posts_of(appointments, u);
         posts.manager & over != 0
+    }
+
+    // What u holds over x and over y, what he administers of the two, and whether x is directly in y: what is asked of a request that
+    // names two objects, asked at once.
+    pub fn held(self, u: u8, x: u8, y: u8) -> Held
+        ensures { λ r. ⌜ r ≡ heldOf self u x y ⌝ }
+    {
+        let first = Over {
+            owned: self.owns(u, x),
+            managed: self.manages(u, x),
+        };
+        let second = Over {
+            owned: self.owns(u, y),
+            managed: self.manages(u, y),
+        };
+        Held {
+            first,
+            second,
+            pair: self.administers(u, x, y),
+            direct: self.direct(x, y),
+        }
     }
 
     // All b such that u administers the pair (a, b).
