@@ -12,9 +12,9 @@ use Rattle.rules.specs.declared.Request.{Request}
 use Rattle.rules.specs.declared.Request.the-variants.{Make, Put, Take, Appoint, Dismiss, Grant, Withdraw, Use}
 use Rattle.rules.specs.declared.Verdict.the-variants.{Done, NoAuthority}
 use Rattle.rules.specs.Authority.{may}
-use Rattle.rules.specs.Refusals.{noAuthority, ownGain, handOver, orphan}
+use Rattle.rules.specs.Refusals.{alreadySo, noAuthority, ownGain, handOver, orphan}
 use Rattle.rules.specs.Judging.{doneBy, done}
-use Rattle.judge.specs.Kind.{isUse, canGain, canHandOver, canOrphan}
+use Rattle.judge.specs.Kind.{isUse, canGain, canOrphan}
 use Rattle.judge.specs.Using.{usedBy}
 
 -- What is said of the kind of a request is said of one that is equal.
@@ -32,6 +32,30 @@ no-orphan p (Grant i v t o) e = refl
 no-orphan p (Withdraw i) e = refl
 no-orphan p (Use x k) e = refl
 
+-- A USE is nothing that can be so already.
+pub use-not-so : (p : Policy) (q : Request) → isUse q ≡ true → alreadySo p q ≡ false
+unfolding alreadySo
+use-not-so p (Make i s g) e = absurd (false≢true e)
+use-not-so p (Put x g) e = absurd (false≢true e)
+use-not-so p (Take x g) e = absurd (false≢true e)
+use-not-so p (Appoint i k h a b) e = absurd (false≢true e)
+use-not-so p (Dismiss i) e = absurd (false≢true e)
+use-not-so p (Grant i v t o) e = absurd (false≢true e)
+use-not-so p (Withdraw i) e = absurd (false≢true e)
+use-not-so p (Use x k) e = refl
+
+-- What can give a holding leaves nothing without an owner.
+pub gain-no-orphan : (p : Policy) (q : Request) → canGain q ≡ true → orphan p q ≡ false
+unfolding orphan
+gain-no-orphan p (Make i s g) e = refl
+gain-no-orphan p (Put x g) e = refl
+gain-no-orphan p (Take x g) e = absurd (false≢true e)
+gain-no-orphan p (Appoint i k h a b) e = refl
+gain-no-orphan p (Dismiss i) e = absurd (false≢true e)
+gain-no-orphan p (Grant i v t o) e = refl
+gain-no-orphan p (Withdraw i) e = refl
+gain-no-orphan p (Use x k) e = refl
+
 module _ (p : Policy) (u : ℕ) where
   pub no-own-gain : (q : Request) → canGain q ≡ false → ownGain p u q ≡ false
   unfolding ownGain
@@ -44,7 +68,8 @@ module _ (p : Policy) (u : ℕ) where
   no-own-gain (Withdraw i) e = refl
   no-own-gain (Use x k) e = refl
 
-  pub no-hand-over : (q : Request) → canHandOver q ≡ false → handOver p u q ≡ false
+  -- What cannot give its sender a holding hands nothing over either.
+  pub no-hand-over : (q : Request) → canGain q ≡ false → handOver p u q ≡ false
   unfolding handOver
   no-hand-over (Make i s g) e = refl
   no-hand-over (Put x g) e = absurd (true≢false e)
@@ -66,19 +91,6 @@ module _ (p : Policy) (u : ℕ) where
   done-by-none (Grant i v t o) e = refl
   done-by-none (Withdraw i) e = refl
   done-by-none (Use x k) e = absurd (true≢false e)
-
-  -- A USE can fail none of the checks after the ninth.
-  pub use-passes : (q : Request) → isUse q ≡ true
-      → ((ownGain p u q ≡ false) × (handOver p u q ≡ false)) × (orphan p q ≡ false)
-  unfolding ownGain handOver orphan
-  use-passes (Make i s g) e = absurd (false≢true e)
-  use-passes (Put x g) e = absurd (false≢true e)
-  use-passes (Take x g) e = absurd (false≢true e)
-  use-passes (Appoint i k h a b) e = absurd (false≢true e)
-  use-passes (Dismiss i) e = absurd (false≢true e)
-  use-passes (Grant i v t o) e = absurd (false≢true e)
-  use-passes (Withdraw i) e = absurd (false≢true e)
-  use-passes (Use x k) e = ((refl, refl), refl)
 
   -- The rule that is found says of a USE whether its sender has the authority, and is the one that is cited.
   pub used-is : (x k : ℕ) → usedBy (permitting p u k x) ≡ (noAuthority p u (Use x k) ⇒ NoAuthority ∥ done p u (Use x k))

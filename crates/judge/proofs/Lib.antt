@@ -3,8 +3,9 @@
 -- of own gain is one thing.
 pub mod Naming
 pub mod Sorting
-pub mod Governing
+pub mod Entitling
 pub mod ByKind
 pub mod Ordered
+pub mod Staging
 pub mod Filling
 pub mod Telling

@@ -1,40 +1,30 @@
--- The order of the checks. The table as two lists, the tests and their refusals: the first test that holds refuses, the policy as it was;
--- where none holds the request is done.
-use mathlib.Core.Path.{_≡_, refl, sym, _∙_, subst}
-use mathlib.Core.Bool.{Bool, true, false, false≢true}
+-- The order of the checks: the three stages, one after the other, are the table of the twelve.
+use mathlib.Core.Path.{_≡_, refl, sym, ap, _∙_}
+use mathlib.Core.Bool.{Bool, true, false, true≢false, false≢true}
 use mathlib.Core.List.{List, [], _∷_}
-use mathlib.Core.Logic.{⊎-elim}
-use Prim.Native.Nat.{ℕ, zero, suc, _+_, _<_}
-use native.Mathlib.Nat.{not-suc-le-zero}
+use Prim.Native.Nat.{ℕ}
 use native.Mathlib.Omega.{arith}
-use borrow.Author.Tests.{eq-eqb, ne-eqb}
+use borrow.Author.Tests.{eqb-true}
 use lib.Dec.{eqb}
-use lib.ListN.{length, getD}
 use Rattle.reach.specs.declared.Policy.{Policy}
+use Rattle.reach.specs.declared.Place.{Place}
+use Rattle.reach.specs.declared.Place.the-variants.{At, Nothing}
 use Rattle.reach.specs.Tests.{_⇒_∥_}
-use Rattle.reach.proofs.WordSets.{below-next}
+use Rattle.reach.specs.Privileges.{permitting}
 use Rattle.rules.specs.declared.Request.{Request}
+use Rattle.rules.specs.declared.Request.the-variants.{Make, Put, Take, Appoint, Dismiss, Grant, Withdraw, Use}
 use Rattle.rules.specs.declared.Verdict.{Verdict}
-use Rattle.rules.specs.declared.Verdict.the-variants.{Torn, Unknown, Misfit, Stranger, OffTheSheet, Absent, WrongSort, AlreadySo}
-use Rattle.rules.specs.declared.Verdict.the-variants.{NoAuthority, OwnGain, HandOver, Orphan}
+use Rattle.rules.specs.declared.Verdict.the-variants.{Done, DoneBy, Torn, Unknown, Misfit, Stranger, OffTheSheet, Absent, WrongSort}
+use Rattle.rules.specs.declared.Verdict.the-variants.{AlreadySo, NoAuthority, OwnGain, HandOver, Orphan}
 use Rattle.rules.specs.Records.{sender, request}
 use Rattle.rules.specs.Doing.{after}
 use Rattle.rules.specs.Refusals.{torn, unknown, misfit, stranger, offTheSheet, absent, wrongSort, alreadySo, noAuthority, ownGain}
 use Rattle.rules.specs.Refusals.{handOver, orphan}
-use Rattle.rules.specs.Judging.{codeOf, done, verdictOn, verdict, accepted, judge}
-use Rattle.judge.specs.Answering.{answered}
+use Rattle.rules.specs.Judging.{codeOf, doneBy, done, verdictOn, verdict, accepted, judge}
+use Rattle.judge.specs.declared.Asked.{Asked}
+use Rattle.judge.specs.Answering.{answered, changes, formedBy, allowedBy, harmlessBy, readOf}
 
-abbrev tests : Policy → List ℕ → ℕ → Request → List Bool
-tests p b u q =
-    torn b ∷ unknown b ∷ misfit b ∷ stranger p u
-    ∷ offTheSheet q ∷ absent p q ∷ wrongSort p q ∷ alreadySo p q
-    ∷ noAuthority p u q ∷ ownGain p u q ∷ handOver p u q ∷ orphan p q ∷ []
-
-abbrev refusals : List Verdict
-refusals =
-    Torn ∷ Unknown ∷ Misfit ∷ Stranger
-    ∷ OffTheSheet ∷ Absent ∷ WrongSort ∷ AlreadySo
-    ∷ NoAuthority ∷ OwnGain ∷ HandOver ∷ Orphan ∷ []
+-- ---- Checks in a row
 
 -- The refusal of the first test that holds, or else d.
 first : List Bool → List Verdict → Verdict → Verdict
@@ -42,89 +32,212 @@ first [] vs d = d
 first (t ∷ ts) [] d = d
 first (t ∷ ts) (v ∷ vs) d = t ⇒ v ∥ first ts vs d
 
--- None of the tests before n holds.
-abbrev NoneOf : List Bool → ℕ → Type 0
-NoneOf ts n = (i : ℕ) → i < n → getD ts i false ≡ false
+-- They are refusals, each with a number.
+data Refusing : List Verdict → Type 0 where
+  none : Refusing []
+  more : (v : Verdict) {vs : List Verdict} → changes v ≡ false → (codeOf v ≡ 0 → ⊥) → Refusing vs → Refusing (v ∷ vs)
 
-first-at : (ts : List Bool) (vs : List Verdict) (d : Verdict) (n : ℕ) → n < length vs → NoneOf ts n → getD ts n false ≡ true
-    → first ts vs d ≡ getD vs n d
+-- A refusal stays, and what passes goes on to what comes after.
+first-then : (ts : List Bool) (vs : List Verdict) (d n : Verdict) → Refusing vs
+    → (changes (first ts vs d) ⇒ n ∥ first ts vs d) ≡ first ts vs (changes d ⇒ n ∥ d)
 unfolding first
-first-at [] vs d n l none e = absurd (false≢true e)
-first-at (t ∷ ts) [] d n l none e = absurd (not-suc-le-zero l)
-first-at (t ∷ ts) (v ∷ vs) d zero l none e = rw e
-first-at (t ∷ ts) (v ∷ vs) d (suc n) l none e =
-    let f : t ≡ false = none zero (omega arith) in
-    rw f (first-at ts vs d n (omega (arith, l)) (λ i h. none (suc i) (omega (arith, h))) e)
+first-then [] vs d n r = refl
+first-then (t ∷ ts) [] d n r = refl
+first-then (true ∷ ts) (v ∷ vs) d n (more _ e z r) = rw e
+first-then (false ∷ ts) (v ∷ vs) d n (more _ e z r) = first-then ts vs d n r
 
-first-none : (ts : List Bool) (vs : List Verdict) (d : Verdict) → NoneOf ts (length ts) → first ts vs d ≡ d
+-- What is neither refused nor changes anything comes from behind them.
+first-never : (ts : List Bool) (vs : List Verdict) (d : Verdict) → Refusing vs → (changes d ≡ false → codeOf d ≡ 0 → ⊥)
+    → changes (first ts vs d) ≡ false → codeOf (first ts vs d) ≡ 0 → ⊥
 unfolding first
-first-none [] vs d none = refl
-first-none (t ∷ ts) [] d none = refl
-first-none (t ∷ ts) (v ∷ vs) d none =
-    let f : t ≡ false = none zero (omega arith) in
-    rw f (first-none ts vs d (λ i h. none (suc i) (omega (arith, h))))
+first-never [] vs d r n = n
+first-never (t ∷ ts) [] d r n = n
+first-never (true ∷ ts) (v ∷ vs) d (more _ e z r) n = λ c k. z k
+first-never (false ∷ ts) (v ∷ vs) d (more _ e z r) n = first-never ts vs d r n
 
--- None of the checks before n applies. Counted from 0, so that n have passed.
-pub record Passed (p : Policy) (b : List ℕ) (u : ℕ) (q : Request) (n : ℕ) : Type 0 where
-  pub none : NoneOf (tests p b u q) n
+-- ---- The stages
 
-pub pass-start : {p : Policy} {b : List ℕ} {u : ℕ} {q : Request} → Passed p b u q 0
-pass-start = record { none = λ i l. absurd (not-suc-le-zero l) }
+abbrev forms : Policy → List ℕ → ℕ → Request → List Bool
+forms p b u q = torn b ∷ unknown b ∷ misfit b ∷ stranger p u ∷ offTheSheet q ∷ absent p q ∷ wrongSort p q ∷ []
 
--- One check more that does not apply.
-pub pass : {p : Policy} {b : List ℕ} {u : ℕ} {q : Request} {n : ℕ} → Passed p b u q n → getD (tests p b u q) n false ≡ false
-    → Passed p b u q (n + 1)
-pass {p} {b} {u} {q} {n} k e =
-    record {
-      none = λ i l.
-          ⊎-elim
-          (λ s. subst (λ (j : ℕ). getD (tests p b u q) j false ≡ false) (sym s) e)
-          (λ h. k .none i h)
-          (below-next i n l);
-    }
+abbrev deformed : List Verdict
+deformed = Torn ∷ Unknown ∷ Misfit ∷ Stranger ∷ OffTheSheet ∷ Absent ∷ WrongSort ∷ []
 
--- ---- The verdict
+abbrev rights : Policy → ℕ → Request → List Bool
+rights p u q = alreadySo p q ∷ noAuthority p u q ∷ []
+
+abbrev unrighted : List Verdict
+unrighted = AlreadySo ∷ NoAuthority ∷ []
+
+abbrev harms : Policy → ℕ → Request → List Bool
+harms p u q = ownGain p u q ∷ handOver p u q ∷ orphan p q ∷ []
+
+abbrev harmed : List Verdict
+harmed = OwnGain ∷ HandOver ∷ Orphan ∷ []
+
+refuse-deformed : Refusing deformed
+refuse-deformed =
+    more Torn refl (λ z. omega (arith, z))
+    (more Unknown refl (λ z. omega (arith, z))
+    (more Misfit refl (λ z. omega (arith, z))
+    (more Stranger refl (λ z. omega (arith, z))
+    (more OffTheSheet refl (λ z. omega (arith, z))
+    (more Absent refl (λ z. omega (arith, z))
+    (more WrongSort refl (λ z. omega (arith, z)) none))))))
+
+refuse-unrighted : Refusing unrighted
+refuse-unrighted = more AlreadySo refl (λ z. omega (arith, z)) (more NoAuthority refl (λ z. omega (arith, z)) none)
+
+refuse-harmed : Refusing harmed
+refuse-harmed =
+    more OwnGain refl (λ z. omega (arith, z))
+    (more HandOver refl (λ z. omega (arith, z))
+    (more Orphan refl (λ z. omega (arith, z)) none))
+
+-- What is done goes through the last three checks; a USE, which can fail none of them, is done by its rule.
+done-then : (p : Policy) (u : ℕ) (q : Request)
+    → (changes (done p u q) ⇒ harmlessBy p u q ∥ done p u q)
+    ≡ (ownGain p u q ⇒ OwnGain ∥ handOver p u q ⇒ HandOver ∥ orphan p q ⇒ Orphan ∥ done p u q)
+unfolding done ownGain handOver orphan
+done-then p u (Make i s g) = refl
+done-then p u (Put x g) = refl
+done-then p u (Take x g) = refl
+done-then p u (Appoint i k h a b) = refl
+done-then p u (Dismiss i) = refl
+done-then p u (Grant i v t o) = refl
+done-then p u (Withdraw i) = refl
+done-then p u (Use x k) = go (permitting p u k x)
+  where
+    go : (w : Place) → (changes (doneBy w) ⇒ Done ∥ doneBy w) ≡ doneBy w
+    go (At i) = refl
+    go Nothing = refl
 
 module _ (p : Policy) (b : List ℕ) (u : ℕ) (q : Request) where
-  table : verdictOn p b u q ≡ first (tests p b u q) refusals (done p u q)
+  -- The table, by its stages.
+  table : verdictOn p b u q ≡ first (forms p b u q) deformed (first (rights p u q) unrighted (first (harms p u q) harmed (done p u q)))
   unfolding verdictOn first
   table = refl
 
-  -- The first test that holds refuses.
-  pub verdict-stops : (n : ℕ) → n < 12 → Passed p b u q n → getD (tests p b u q) n false ≡ true
-      → getD refusals n (done p u q) ≡ verdictOn p b u q
-  verdict-stops n l k t = sym (table ∙ first-at (tests p b u q) refusals (done p u q) n l (k .none) t)
+  formed-is : formedBy p b u q ≡ first (forms p b u q) deformed Done
+  unfolding first
+  formed-is = refl
 
-  -- Where no test holds the request is done.
-  pub verdict-done : Passed p b u q 12 → done p u q ≡ verdictOn p b u q
-  verdict-done k = sym (table ∙ first-none (tests p b u q) refusals (done p u q) (k .none))
+  allowed-is : allowedBy p u q ≡ first (rights p u q) unrighted (done p u q)
+  unfolding first
+  allowed-is = refl
 
-  -- A USE, to which no check after the ninth applies, is done if it passes that one.
-  pub verdict-of-use : Passed p b u q 8 → ((ownGain p u q ≡ false) × (handOver p u q ≡ false)) × (orphan p q ≡ false)
-      → (noAuthority p u q ⇒ NoAuthority ∥ done p u q) ≡ verdictOn p b u q
-  verdict-of-use k after = go (noAuthority p u q) refl
+  last-is : (changes (done p u q) ⇒ harmlessBy p u q ∥ done p u q) ≡ first (harms p u q) harmed (done p u q)
+  unfolding first
+  last-is = done-then p u q
+
+  allowed-then : (changes (allowedBy p u q) ⇒ harmlessBy p u q ∥ allowedBy p u q)
+      ≡ first (rights p u q) unrighted (first (harms p u q) harmed (done p u q))
+  allowed-then =
+      ap (λ (v : Verdict). changes v ⇒ harmlessBy p u q ∥ v) allowed-is
+      ∙ first-then (rights p u q) unrighted (done p u q) (harmlessBy p u q) refuse-unrighted
+      ∙ ap (λ (v : Verdict). first (rights p u q) unrighted v) last-is
+
+  formed-then : (changes (formedBy p b u q) ⇒ allowedBy p u q ∥ formedBy p b u q) ≡ first (forms p b u q) deformed (allowedBy p u q)
+  formed-then =
+      ap (λ (v : Verdict). changes v ⇒ allowedBy p u q ∥ v) formed-is
+      ∙ first-then (forms p b u q) deformed Done (allowedBy p u q) refuse-deformed
+
+  -- The three stages, one after the other.
+  in-order : {v w : Verdict} → v ≡ (changes (formedBy p b u q) ⇒ allowedBy p u q ∥ formedBy p b u q)
+      → w ≡ (changes v ⇒ harmlessBy p u q ∥ v) → w ≡ verdictOn p b u q
+  in-order {v} {w} e f =
+      f
+      ∙ ap (λ (v : Verdict). changes v ⇒ harmlessBy p u q ∥ v) (e ∙ formed-then)
+      ∙ first-then (forms p b u q) deformed (allowedBy p u q) (harmlessBy p u q) refuse-deformed
+      ∙ ap (λ (v : Verdict). first (forms p b u q) deformed v) allowed-then
+      ∙ sym table
+
+  -- ---- The answer
+
+  -- Whatever is done and changes nothing is a USE.
+  never-done : done p u q ≡ Done → changes (verdictOn p b u q) ≡ false → codeOf (verdictOn p b u q) ≡ 0 → ⊥
+  never-done d =
+      rw
+      table
+      (first-never (forms p b u q) deformed _ refuse-deformed
+      (first-never (rights p u q) unrighted _ refuse-unrighted
+      (first-never (harms p u q) harmed _ refuse-harmed (λ e z. true≢false (sym (ap changes d) ∙ e)))))
+
+-- The stages on a record that was read.
+module _ (p : Policy) (b : List ℕ) {r : Asked} (e : r ≡ readOf p b) where
+  read-formed : r .verdict ≡ formedBy p b (r .sender) (r .request)
+  read-formed = rw e
+
+  pub stages : {v w : Verdict} → v ≡ (changes (r .verdict) ⇒ allowedBy p (r .sender) (r .request) ∥ (r .verdict))
+      → w ≡ (changes v ⇒ harmlessBy p (r .sender) (r .request) ∥ v) → w ≡ verdictOn p b (r .sender) (r .request)
+  stages {v} {w} f g =
+      in-order p b (r .sender) (r .request)
+      (f ∙ ap (λ (v : Verdict). changes v ⇒ allowedBy p (r .sender) (r .request) ∥ v) read-formed)
+      g
+
+  pub read-sent : r .sender ≡ sender b
+  read-sent = rw e
+
+  pub read-asked : r .request ≡ request b
+  read-asked = rw e
+
+-- So it leaves the policy as it is.
+kept : (p : Policy) (b : List ℕ) (u : ℕ) (q : Request) → changes (verdictOn p b u q) ≡ false → codeOf (verdictOn p b u q) ≡ 0
+    → after p q ≡ p
+unfolding after done
+kept p b u (Make i s g) e z = absurd (never-done p b u _ refl e z)
+kept p b u (Put x g) e z = absurd (never-done p b u _ refl e z)
+kept p b u (Take x g) e z = absurd (never-done p b u _ refl e z)
+kept p b u (Appoint i k h a w) e z = absurd (never-done p b u _ refl e z)
+kept p b u (Dismiss i) e z = absurd (never-done p b u _ refl e z)
+kept p b u (Grant i v t o) e z = absurd (never-done p b u _ refl e z)
+kept p b u (Withdraw i) e z = absurd (never-done p b u _ refl e z)
+kept p b u (Use x k) e z = refl
+
+changes-done : (v : Verdict) → changes v ≡ true → accepted v ≡ true
+changes-done Done e = refl
+changes-done (DoneBy i) e = refl
+changes-done Torn e = absurd (false≢true e)
+changes-done Unknown e = absurd (false≢true e)
+changes-done Misfit e = absurd (false≢true e)
+changes-done Stranger e = absurd (false≢true e)
+changes-done OffTheSheet e = absurd (false≢true e)
+changes-done Absent e = absurd (false≢true e)
+changes-done WrongSort e = absurd (false≢true e)
+changes-done AlreadySo e = absurd (false≢true e)
+changes-done NoAuthority e = absurd (false≢true e)
+changes-done OwnGain e = absurd (false≢true e)
+changes-done HandOver e = absurd (false≢true e)
+changes-done Orphan e = absurd (false≢true e)
+
+code-of-accepted : (v : Verdict) → accepted v ≡ true → codeOf v ≡ 0
+code-of-accepted v e = eqb-true _ _ e
+
+-- With a verdict that changes the policy goes the policy after, and with every other the policy as it was.
+module _ (p : Policy) (b : List ℕ) {u : ℕ} {q : Request} {v : Verdict} (sent : u ≡ sender b) (asked : q ≡ request b)
+    (judged : v ≡ verdictOn p b u q) where
+  verdict-is : v ≡ verdict p b
+  unfolding verdict
+  verdict-is = rw (judged, sent, asked)
+
+  pub judge-verdict : v ≡ judge p b .verdict
+  unfolding judge
+  judge-verdict = verdict-is
+
+  pub judge-changes : changes v ≡ true → answered (after p q) v ≡ judge p b
+  unfolding judge
+  judge-changes e =
+      let a : accepted (verdict p b) ≡ true = sym (ap accepted verdict-is) ∙ changes-done v e in
+      rw (a, asked, verdict-is)
+
+  pub judge-keeps : changes v ≡ false → answered p v ≡ judge p b
+  unfolding judge
+  judge-keeps e = go (accepted v) refl
     where
-      go : (t : Bool) → noAuthority p u q ≡ t → (t ⇒ NoAuthority ∥ done p u q) ≡ verdictOn p b u q
-      go true e = verdict-stops 8 (omega arith) k e
-      go false e = verdict-done (pass (pass (pass (pass k e) (after .0 .0)) (after .0 .1)) (after .1))
-
--- That of the record's own sender and request is the verdict on the record.
-pub verdict-of : (p : Policy) (b : List ℕ) {u : ℕ} {q : Request} {v : Verdict} → u ≡ sender b → q ≡ request b → v ≡ verdictOn p b u q
-    → v ≡ verdict p b
-unfolding verdict
-verdict-of p b e f g = rw (g, e, f)
-
--- ---- The answer
-
--- With the verdict goes the policy after, if the code is 0, and else the policy as it was.
-module _ (p : Policy) (b : List ℕ) {v : Verdict} {n : ℕ} (e : v ≡ verdict p b) (c : n ≡ codeOf v) where
-  code : eqb n 0 ≡ accepted (verdict p b)
-  code = rw (c, e)
-
-  pub judge-accepts : n ≡ 0 → {q : Request} → q ≡ request b → answered (after p q) v ≡ judge p b
-  unfolding judge
-  judge-accepts z f = let a : accepted (verdict p b) ≡ true = sym code ∙ eq-eqb _ _ z in rw (a, e, f)
-
-  pub judge-refuses : (n ≡ 0 → ⊥) → answered p v ≡ judge p b
-  unfolding judge
-  judge-refuses z = let a : accepted (verdict p b) ≡ false = sym code ∙ ne-eqb _ _ z in rw (a, e)
+      go : (t : Bool) → accepted v ≡ t → answered p v ≡ judge p b
+      go true a =
+          let f : accepted (verdict p b) ≡ true = sym (ap accepted verdict-is) ∙ a in
+          let k : after p (request b) ≡ p = sym (ap (after p) asked)
+          ∙ kept p b u q (sym (ap changes judged) ∙ e) (sym (ap codeOf judged) ∙ code-of-accepted v a) in
+          rw (f, k, verdict-is)
+      go false a = let f : accepted (verdict p b) ≡ false = sym (ap accepted verdict-is) ∙ a in rw (f, verdict-is)

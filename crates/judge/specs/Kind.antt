@@ -13,7 +13,7 @@ isUse (Grant i u t o) = false
 isUse (Withdraw i) = false
 isUse (Use x k) = true
 
--- A request of this kind can give its sender a holding (check 10).
+-- A request of this kind can give its sender a holding, or hand something over (checks 10 and 11).
 abbrev pub canGain : Request → Bool
 canGain (Make i s g) = false
 canGain (Put x g) = true
@@ -23,17 +23,6 @@ canGain (Dismiss i) = false
 canGain (Grant i u t o) = true
 canGain (Withdraw i) = false
 canGain (Use x k) = false
-
--- It can hand something over (check 11).
-abbrev pub canHandOver : Request → Bool
-canHandOver (Make i s g) = false
-canHandOver (Put x g) = true
-canHandOver (Take x g) = false
-canHandOver (Appoint i k h a b) = false
-canHandOver (Dismiss i) = false
-canHandOver (Grant i u t o) = false
-canHandOver (Withdraw i) = false
-canHandOver (Use x k) = false
 
 -- It can leave an object without an owner (check 12).
 abbrev pub canOrphan : Request → Bool

@@ -1,179 +1,96 @@
-// Check 9: who may send what. The sender is a user by now: what he is appointed over is read of the appointments, and what
-// is asked of an object climbs from it.
+// Checks 8 and 9, by what the sender holds over the two objects that the request is about: asked of the policy at once, and looked at here.
 ghost use mathlib.Core.Path.{_≡_};
-ghost use mathlib.Core.Bool.{false, _&&_};
-ghost use Rattle.reach.specs.declared.Policy.{Policy};
-ghost use Rattle.reach.specs.Privileges.{administers};
-ghost use Rattle.rules.specs.Authority.{governs, mayAppoint, mayWithdraw};
-ghost use Rattle.rules.specs.Refusals.{noAuthority};
-ghost use Rattle.judge.specs.Naming.{namedBy};
-ghost use Rattle.judge.specs.Lending.{Heard};
-ghost use Rattle.judge.specs.Kind.{isUse};
+ghost use Rattle.judge.specs.Holding.{firstOf, sideOf, secondOf, governs, appoints, soAlready, unentitled};
 use crate::records::Named;
-use reach::AccessRule;
-use reach::Appointment;
-use reach::climb;
-use reach::covers_pair;
-use reach::posts_of;
+use reach::Held;
+use reach::Over;
 use rules::Request;
 
-// Whether u owns or manages x.
-fn governs<'a>(
-    sorts: &'a [u8; 64],
-    memberships: &'a [u64; 64],
-    appointments: [Appointment; 32],
-    u: u8,
-    x: u8,
-) -> bool
-    ensures { λ r. ⌜ ((p : Policy) → Heard p (now (sorts .entry)) (now (memberships .entry)) appointments u →
-        r ≡ governs p u x) ⌝ }
+// The first of the two: the object, the group of a MAKE, A, or U. DISMISS and WITHDRAW go by the numbers that the place holds. 255 is no object.
+pub fn first_of(named: Named, q: Request) -> u8
+    ensures { λ r. ⌜ r ≡ firstOf named q ⌝ }
 {
-    let posts = posts_of(appointments, u);
-    (posts.owner | posts.manager) & climb(sorts, memberships, x) != 0
-}
-
-// Whether u may put an object into a group, and take it out: he owns or manages both.
-fn may_move<'a>(
-    sorts: &'a [u8; 64],
-    memberships: &'a [u64; 64],
-    appointments: [Appointment; 32],
-    u: u8,
-    object: u8,
-    group: u8,
-) -> bool
-    ensures { λ r. ⌜ ((p : Policy) → Heard p (now (sorts .entry)) (now (memberships .entry)) appointments u →
-        r ≡ (governs p u object && governs p u group)) ⌝ }
-{
-    let posts = posts_of(appointments, u);
-    let governed = posts.owner | posts.manager;
-    let over_object = climb(sorts, memberships, object);
-    let over_group = climb(sorts, memberships, group);
-    (governed & over_object != 0) & (governed & over_group != 0)
-}
-
-// Whether u may appoint, and dismiss, this appointment.
-fn may_appoint<'a>(
-    sorts: &'a [u8; 64],
-    memberships: &'a [u64; 64],
-    appointments: [Appointment; 32],
-    u: u8,
-    w: Appointment,
-) -> bool
-    ensures { λ r. ⌜ ((p : Policy) → Heard p (now (sorts .entry)) (now (memberships .entry)) appointments u →
-        r ≡ mayAppoint p u w) ⌝ }
-{
-    let posts = posts_of(appointments, u);
-    let over_a = climb(sorts, memberships, w.a);
-    if w.kind == 3 {
-        let over_b = climb(sorts, memberships, w.b);
-        return (posts.manager & over_a != 0) & (posts.manager & over_b != 0);
+    match q {
+        Request::Make { group, .. } => group,
+        Request::Put { object, .. } => object,
+        Request::Take { object, .. } => object,
+        Request::Appoint { a, .. } => a,
+        Request::Dismiss { .. } => named.appointment.a,
+        Request::Grant { users, .. } => users,
+        Request::Withdraw { .. } => named.rule.users,
+        Request::Use { .. } => 255,
     }
-    posts.owner & over_a != 0
 }
 
-// Whether u administers the pair (a, b).
-fn administers<'a>(
-    sorts: &'a [u8; 64],
-    memberships: &'a [u64; 64],
-    appointments: [Appointment; 32],
-    u: u8,
-    a: u8,
-    b: u8,
-) -> bool
-    ensures { λ r. ⌜ ((p : Policy) → Heard p (now (sorts .entry)) (now (memberships .entry)) appointments u →
-        r ≡ administers p u a b) ⌝ }
+// B of an administrator; that of the other kinds is not read.
+fn side_of(kind: u8, b: u8) -> u8
+    ensures { λ r. ⌜ r ≡ sideOf kind b ⌝ }
 {
-    let over_a = climb(sorts, memberships, a);
-    let over_b = climb(sorts, memberships, b);
-    covers_pair(appointments, u, over_a, over_b)
+    if kind == 3 { b } else { 255 }
 }
 
-// Whether u may withdraw this rule: he administers its pair, or owns its targets.
-fn may_withdraw<'a>(
-    sorts: &'a [u8; 64],
-    memberships: &'a [u64; 64],
-    appointments: [Appointment; 32],
-    u: u8,
-    rule: AccessRule,
-) -> bool
-    ensures { λ r. ⌜ ((p : Policy) → Heard p (now (sorts .entry)) (now (memberships .entry)) appointments u →
-        r ≡ mayWithdraw p u rule) ⌝ }
+// The second: the group, B, or T.
+pub fn second_of(named: Named, q: Request) -> u8
+    ensures { λ r. ⌜ r ≡ secondOf named q ⌝ }
 {
-    let over_users = climb(sorts, memberships, rule.users);
-    let over_targets = climb(sorts, memberships, rule.targets);
-    if covers_pair(appointments, u, over_users, over_targets) {
-        return true;
+    match q {
+        Request::Make { .. } => 255,
+        Request::Put { group, .. } => group,
+        Request::Take { group, .. } => group,
+        Request::Appoint { kind, b, .. } => side_of(kind, b),
+        Request::Dismiss { .. } => side_of(named.appointment.kind, named.appointment.b),
+        Request::Grant { targets, .. } => targets,
+        Request::Withdraw { .. } => named.rule.targets,
+        Request::Use { .. } => 255,
     }
-    let posts = posts_of(appointments, u);
-    posts.owner & over_targets != 0
+}
+
+// Owns or manages.
+fn governs(over: Over) -> bool
+    ensures { λ r. ⌜ r ≡ governs over ⌝ }
+{
+    over.owned | over.managed
+}
+
+// Whether an appointment of that kind may be made, and undone: he owns A, or manages both A and B.
+fn appoints(held: Held, kind: u8) -> bool
+    ensures { λ r. ⌜ r ≡ appoints held kind ⌝ }
+{
+    if kind == 3 {
+        held.first.managed & held.second.managed
+    } else {
+        held.first.owned
+    }
+}
+
+// Check 8.
+pub fn already_so(named: Named, held: Held, q: Request) -> bool
+    ensures { λ r. ⌜ r ≡ soAlready named held q ⌝ }
+{
+    match q {
+        Request::Make { .. } => named.filled,
+        Request::Put { .. } => held.direct,
+        Request::Take { .. } => !held.direct,
+        Request::Appoint { .. } => named.filled,
+        Request::Dismiss { .. } => false,
+        Request::Grant { .. } => named.filled,
+        Request::Withdraw { .. } => false,
+        Request::Use { .. } => false,
+    }
 }
 
 // Check 9 of every kind but USE, which the rules decide, and of which it says false.
-pub fn no_authority<'a>(
-    sorts: &'a [u8; 64],
-    memberships: &'a [u64; 64],
-    appointments: [Appointment; 32],
-    named: Named,
-    u: u8,
-    q: Request,
-) -> bool
-    ensures { λ r. ⌜ ((p : Policy) → Heard p (now (sorts .entry)) (now (memberships .entry)) appointments u →
-        named ≡ namedBy p q → isUse q ≡ false → r ≡ noAuthority p u q) ⌝ }
+pub fn no_authority(named: Named, held: Held, q: Request) -> bool
+    ensures { λ r. ⌜ r ≡ unentitled named held q ⌝ }
 {
     match q {
-        Request::Make { place, sort, group } => !governs(
-            sorts,
-            memberships,
-            appointments,
-            u,
-            group,
-        ),
-        Request::Put { object, group } => !may_move(
-            sorts,
-            memberships,
-            appointments,
-            u,
-            object,
-            group,
-        ),
-        Request::Take { object, group } => !may_move(
-            sorts,
-            memberships,
-            appointments,
-            u,
-            object,
-            group,
-        ),
-        Request::Appoint {
-            place,
-            kind,
-            holder,
-            a,
-            b,
-        } => {
-            let w = Appointment { kind, holder, a, b };
-            !may_appoint(sorts, memberships, appointments, u, w)
-        },
-        Request::Dismiss { place } => !may_appoint(
-            sorts,
-            memberships,
-            appointments,
-            u,
-            named.appointment,
-        ),
-        Request::Grant {
-            place,
-            users,
-            targets,
-            operations,
-        } => !administers(sorts, memberships, appointments, u, users, targets),
-        Request::Withdraw { place } => !may_withdraw(
-            sorts,
-            memberships,
-            appointments,
-            u,
-            named.rule,
-        ),
-        Request::Use { target, operation } => false,
+        Request::Make { .. } => !governs(held.first),
+        Request::Put { .. } => !(governs(held.first) & governs(held.second)),
+        Request::Take { .. } => !(governs(held.first) & governs(held.second)),
+        Request::Appoint { kind, .. } => !appoints(held, kind),
+        Request::Dismiss { .. } => !appoints(held, named.appointment.kind),
+        Request::Grant { .. } => !held.pair,
+        Request::Withdraw { .. } => !(held.pair | held.second.owned),
+        Request::Use { .. } => false,
     }
 }

@@ -1,20 +1,16 @@
-// Checks 1 to 8: of the bytes, of the sender, and of what the request names. Those that ask the policy are lent the tables
+// Checks 1 to 7: of the bytes, of the sender, and of what the request names. Those that ask the policy are lent the tables
 // that they read, and promise, of every policy with those tables, what the rules say of that policy.
 ghost use mathlib.Core.Path.{_≡_};
 ghost use mathlib.Core.Bool.{not};
 ghost use lib.Dec.{eqb, ltb};
 ghost use Rattle.reach.specs.declared.Policy.{Policy};
 ghost use Rattle.reach.specs.Tests.{_⇒_∥_};
-ghost use Rattle.reach.specs.Reach.{direct};
-ghost use Rattle.rules.specs.Refusals.{torn, unknown, misfit, stranger, oneToThree, offTheSheet, absent, wrongSort, alreadySo};
+ghost use Rattle.rules.specs.Refusals.{torn, unknown, misfit, stranger, oneToThree, offTheSheet, absent, wrongSort};
 ghost use Rattle.judge.specs.Naming.{namedBy};
-ghost use Rattle.judge.specs.Lending.{Lent};
 use crate::records::Named;
 use crate::records::length_of;
 use frame::kind_field;
 use frame::length_field;
-use reach::has;
-use reach::row;
 use reach::sort_in;
 use rules::Request;
 
@@ -147,45 +143,5 @@ pub fn wrong_sort(sorts: &[u8; 64], q: Request) -> bool
         } => (sort_in(sorts, users) != 1) | (sort_in(sorts, targets) != 1),
         Request::Withdraw { place } => false,
         Request::Use { target, operation } => sort_in(sorts, target) != 3,
-    }
-}
-
-// Whether x is directly in g, by a membership that counts.
-fn direct<'a>(sorts: &'a [u8; 64], memberships: &'a [u64; 64], x: u8, g: u8) -> bool
-    ensures { λ r. ⌜ ((p : Policy) → Lent p (now (sorts .entry)) (now (memberships .entry)) → r ≡ direct p x g) ⌝ }
-{
-    (sort_in(sorts, x) != 0) & (sort_in(sorts, g) == 1) & has(row(memberships, x), g)
-}
-
-// Check 8.
-pub fn already_so<'a>(
-    sorts: &'a [u8; 64],
-    memberships: &'a [u64; 64],
-    named: Named,
-    q: Request,
-) -> bool
-    ensures { λ r. ⌜ ((p : Policy) → Lent p (now (sorts .entry)) (now (memberships .entry)) → named ≡ namedBy p q →
-        r ≡ alreadySo p q) ⌝ }
-{
-    match q {
-        Request::Make { place, sort, group } => sort_in(sorts, place) != 0,
-        Request::Put { object, group } => direct(sorts, memberships, object, group),
-        Request::Take { object, group } => !direct(sorts, memberships, object, group),
-        Request::Appoint {
-            place,
-            kind,
-            holder,
-            a,
-            b,
-        } => named.appointment.standing(),
-        Request::Dismiss { place } => false,
-        Request::Grant {
-            place,
-            users,
-            targets,
-            operations,
-        } => named.rule.used,
-        Request::Withdraw { place } => false,
-        Request::Use { target, operation } => false,
     }
 }

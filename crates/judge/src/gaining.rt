@@ -5,11 +5,11 @@ ghost use Rattle.reach.specs.Tables.{view};
 ghost use Rattle.reach.specs.Privileges.{Permitted};
 ghost use Rattle.gains.specs.Giving.{FirstPermission};
 ghost use Rattle.judge.specs.Telling.{OwnGainOf};
+use crate::allowed;
 use crate::doing::after;
-use crate::judge;
+use crate::harmless;
 use crate::numbers::code_of;
-use crate::records::request_of;
-use frame::byte;
+use crate::read;
 use gains::Gain;
 use gains::gained;
 use reach::Policy;
@@ -40,14 +40,18 @@ pub fn permission_gained(p: Policy, u: u8, q: Request) -> Gain
     gained(had, got)
 }
 
-// The first permission that a record would give its sender, if the board refuses it for own gain, and nothing if it answers otherwise.
+// The first permission that a record would give its sender, if the board refuses it for own gain, and nothing if it answers otherwise. The
+// verdict comes from the stages of the judge, in the same order; no policy after is worked out for it.
 pub fn own_gain_of(p: Policy, bytes: &[u8]) -> Gain
     ensures { λ r. ⌜ OwnGainOf p (now (bytes .entry)) r ⌝ }
 {
-    let answer = judge(p, bytes);
-    let verdict = answer.verdict;
-    if code_of(verdict) != 10 {
+    let record = read(p, bytes);
+    let u = record.sender;
+    let q = record.request;
+    let early = record.verdict;
+    let v = harmless(p, u, q, allowed(p, u, q, early));
+    if code_of(v) != 10 {
         return Gain::Nothing;
     }
-    permission_gained(p, byte(bytes, 4), request_of(bytes))
+    permission_gained(p, u, q)
 }

@@ -1,7 +1,7 @@
 // Which checks a request of each kind can fail, by its kind alone: a check that it cannot fail is not asked, and the policy
 // is not handed on to it.
 ghost use mathlib.Core.Path.{_≡_};
-ghost use Rattle.judge.specs.Kind.{isUse, canGain, canHandOver, canOrphan};
+ghost use Rattle.judge.specs.Kind.{isUse, canGain, canOrphan};
 use rules::Request;
 
 // Whether it is a USE.
@@ -20,7 +20,7 @@ pub fn is_use(q: Request) -> bool
     }
 }
 
-// Whether it can give its sender a holding (check 10).
+// Whether it can give its sender a holding, or hand something over (checks 10 and 11).
 pub fn can_gain(q: Request) -> bool
     ensures { λ r. ⌜ r ≡ canGain q ⌝ }
 {
@@ -31,22 +31,6 @@ pub fn can_gain(q: Request) -> bool
         Request::Appoint { .. } => true,
         Request::Dismiss { .. } => false,
         Request::Grant { .. } => true,
-        Request::Withdraw { .. } => false,
-        Request::Use { .. } => false,
-    }
-}
-
-// Whether it can hand something over (check 11).
-pub fn can_hand_over(q: Request) -> bool
-    ensures { λ r. ⌜ r ≡ canHandOver q ⌝ }
-{
-    match q {
-        Request::Make { .. } => false,
-        Request::Put { .. } => true,
-        Request::Take { .. } => false,
-        Request::Appoint { .. } => false,
-        Request::Dismiss { .. } => false,
-        Request::Grant { .. } => false,
         Request::Withdraw { .. } => false,
         Request::Use { .. } => false,
     }

@@ -1,7 +1,12 @@
 // The judge: one request on one policy, answered as the crate `rules` says.
 ghost use mathlib.Core.Path.{_≡_};
-ghost use Rattle.rules.specs.Judging.{judge, verdictOn, OneAnswer};
-ghost use Rattle.judge.specs.Answering.{answered};
+ghost use Rattle.reach.specs.declared.Policy.{Policy};
+ghost use Rattle.reach.specs.Tests.{_⇒_∥_};
+ghost use Rattle.rules.specs.Judging.{judge, OneAnswer};
+ghost use mathlib.Core.Bool.{false};
+ghost use Rattle.judge.specs.Naming.{namedBy};
+ghost use Rattle.judge.specs.Kind.{isUse};
+ghost use Rattle.judge.specs.Answering.{answered, changes, formedBy, allowedBy, harmlessBy, readOf};
 
 mod authority;
 mod doing;
@@ -13,10 +18,12 @@ mod orphans;
 mod records;
 mod using;
 
+use authority::already_so;
+use authority::first_of;
 use authority::no_authority;
+use authority::second_of;
 use doing::after;
 use form::absent;
-use form::already_so;
 use form::misfit;
 use form::off_the_sheet;
 use form::stranger;
@@ -26,22 +33,50 @@ use form::wrong_sort;
 use frame::byte;
 pub use gaining::own_gain_of;
 pub use gaining::permission_gained;
-use gains::hand_over;
-use gains::own_gain;
+use gains::giving;
 use kinds::can_gain;
-use kinds::can_hand_over;
 use kinds::can_orphan;
 use kinds::is_use;
 pub use numbers::cited_of;
 pub use numbers::code_of;
 use orphans::orphan;
 use reach::Policy;
+use records::Named;
 use records::named_in;
 use records::request_of;
 use rules::Answer;
 use rules::Request;
 use rules::Verdict;
 use using::used;
+
+// Who sends a record, what it asks for, and what the first seven checks say of it.
+struct Asked {
+    sender: u8,
+    request: Request,
+    verdict: Verdict,
+}
+
+// Whether the verdict is one that changes the policy: it is done, and no USE.
+fn changes(v: Verdict) -> bool
+    ensures { λ r. ⌜ r ≡ changes v ⌝ }
+{
+    match v {
+        Verdict::Done => true,
+        Verdict::DoneBy(_) => false,
+        Verdict::Torn => false,
+        Verdict::Unknown => false,
+        Verdict::Misfit => false,
+        Verdict::Stranger => false,
+        Verdict::OffTheSheet => false,
+        Verdict::Absent => false,
+        Verdict::WrongSort => false,
+        Verdict::AlreadySo => false,
+        Verdict::NoAuthority => false,
+        Verdict::OwnGain => false,
+        Verdict::HandOver => false,
+        Verdict::Orphan => false,
+    }
+}
 
 // A policy, and a verdict on it.
 fn answer(p: Policy, v: Verdict) -> Answer
@@ -53,10 +88,10 @@ fn answer(p: Policy, v: Verdict) -> Answer
     }
 }
 
-// The verdict on one record, sent by u, that asks for q: that of the first check that applies, or else done. This is the
-// one place that knows the order of the checks. A USE is decided by the rules at check 9, and can fail none after it.
-fn verdict(p: Policy, bytes: &[u8], u: u8, q: Request) -> Verdict
-    ensures { λ r. ⌜ r ≡ verdictOn p (now (bytes .entry)) u q ⌝ }
+// Checks 1 to 7, of the record and of what it names.
+fn formed(sorts: &[u8; 64], named: Named, bytes: &[u8], u: u8, q: Request) -> Verdict
+    ensures { λ r. ⌜ ((p : Policy) → p .sorts ≡ now (sorts .entry) → named ≡ namedBy p q →
+        r ≡ formedBy p (now (bytes .entry)) u q) ⌝ }
 {
     if torn(bytes) {
         return Verdict::Torn;
@@ -67,39 +102,74 @@ fn verdict(p: Policy, bytes: &[u8], u: u8, q: Request) -> Verdict
     if misfit(bytes) {
         return Verdict::Misfit;
     }
-    if stranger(&p.sorts, u) {
+    if stranger(sorts, u) {
         return Verdict::Stranger;
     }
     if off_the_sheet(q) {
         return Verdict::OffTheSheet;
     }
-    let appointments = p.appointments;
-    let rules = p.rules;
-    let named = named_in(appointments, rules, q);
-    if absent(&p.sorts, named, q) {
+    if absent(sorts, named, q) {
         return Verdict::Absent;
     }
-    if wrong_sort(&p.sorts, q) {
+    if wrong_sort(sorts, q) {
         return Verdict::WrongSort;
     }
-    if already_so(&p.sorts, &p.memberships, named, q) {
+    Verdict::Done
+}
+
+// The record, read, and checks 1 to 7.
+fn read(p: Policy, bytes: &[u8]) -> Asked
+    ensures { λ r. ⌜ r ≡ readOf p (now (bytes .entry)) ⌝ }
+{
+    let sorts = p.sorts;
+    let sender = byte(bytes, 4);
+    let request = request_of(bytes);
+    let named = named_in(p, request);
+    let verdict = formed(&sorts, named, bytes, sender, request);
+    Asked {
+        sender,
+        request,
+        verdict,
+    }
+}
+
+// Checks 8 and 9 of all but a USE: what the sender holds over the two objects that the request is about is asked of the policy once.
+fn entitled(p: Policy, u: u8, q: Request) -> Verdict
+    ensures { λ r. ⌜ (isUse q ≡ false → r ≡ allowedBy p u q) ⌝ }
+{
+    let named = named_in(p, q);
+    let held = p.held(u, first_of(named, q), second_of(named, q));
+    if already_so(named, held, q) {
         return Verdict::AlreadySo;
+    }
+    if no_authority(named, held, q) {
+        return Verdict::NoAuthority;
+    }
+    Verdict::Done
+}
+
+// Checks 8 and 9, after those before; a USE that passes is done.
+fn allowed(p: Policy, u: u8, q: Request, v: Verdict) -> Verdict
+    ensures { λ r. ⌜ r ≡ (changes v ⇒ allowedBy p u q ∥ v) ⌝ }
+{
+    if !changes(v) {
+        return v;
     }
     if is_use(q) {
         return used(p, u, q);
     }
-    if no_authority(&p.sorts, &p.memberships, appointments, named, u, q) {
-        return Verdict::NoAuthority;
+    entitled(p, u, q)
+}
+
+// Checks 10 to 12, after those before: what the request would give, and what it would leave without an owner.
+fn harmless(p: Policy, u: u8, q: Request, v: Verdict) -> Verdict
+    ensures { λ r. ⌜ r ≡ (changes v ⇒ harmlessBy p u q ∥ v) ⌝ }
+{
+    if !changes(v) {
+        return v;
     }
     if can_gain(q) {
-        if own_gain(p, u, q) {
-            return Verdict::OwnGain;
-        }
-    }
-    if can_hand_over(q) {
-        if hand_over(p, u, q) {
-            return Verdict::HandOver;
-        }
+        return giving(p, u, q);
     }
     if can_orphan(q) {
         if orphan(p, q) {
@@ -110,15 +180,18 @@ fn verdict(p: Policy, bytes: &[u8], u: u8, q: Request) -> Verdict
 }
 
 // The judge: the answer to one record on one policy, for every policy and all bytes. The first clause is demand 2, every answer and
-// every policy after it as the rules have it; the second is demand 1, one numbered answer, and a refusal that changes nothing.
+// every policy after it as the rules have it; the second is demand 1, one numbered answer, and a refusal that changes nothing. Here, and in
+// the three functions that it calls, the checks stand in their order.
 pub fn judge(p: Policy, bytes: &[u8]) -> Answer
     ensures { λ r. ⌜ r ≡ judge p (now (bytes .entry)) ⌝ }
     ensures { λ r. ⌜ OneAnswer p r ⌝ }
 {
-    let u = byte(bytes, 4);
-    let q = request_of(bytes);
-    let v = verdict(p, bytes, u, q);
-    if code_of(v) == 0 {
+    let record = read(p, bytes);
+    let u = record.sender;
+    let q = record.request;
+    let early = record.verdict;
+    let v = harmless(p, u, q, allowed(p, u, q, early));
+    if changes(v) {
         return answer(after(p, q), v);
     }
     answer(p, v)

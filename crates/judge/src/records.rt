@@ -1,19 +1,25 @@
 // What a record asks for, and what stands at the place that it names.
 ghost use mathlib.Core.Path.{_≡_};
 ghost use Rattle.rules.specs.Records.{lengthOf, request};
-ghost use Rattle.judge.specs.Naming.{placeOf, namedIn};
+ghost use lib.ListN.{getD};
+ghost use Rattle.reach.specs.Tables.{noAppointment, noRule};
+ghost use Rattle.judge.specs.Naming.{neither, ofAppointment, ofRule, namedBy};
 use frame::byte;
 use frame::kind_field;
 use reach::AccessRule;
 use reach::Appointment;
+use reach::Policy;
 use reach::appointment_at;
 use reach::rule_at;
+use reach::sort_in;
 use rules::Request;
 
-// What stands at the place that a request names: an appointment and a rule, whichever the request is about.
+// What stands at the place that a request names: an appointment and a rule, whichever the request is about, and whether the place that it is
+// to fill is in use.
 pub struct Named {
     pub appointment: Appointment,
     pub rule: AccessRule,
+    pub filled: bool,
 }
 
 // The length of a record of each kind.
@@ -78,39 +84,84 @@ pub fn request_of(b: &[u8]) -> Request
     }
 }
 
-// The place in the table of appointments or of rules that a request names; 0 for those that name none there.
-pub fn place_of(q: Request) -> u8
-    ensures { λ r. ⌜ r ≡ placeOf q ⌝ }
+// No appointment, and no rule.
+fn neither(filled: bool) -> Named
+    ensures { λ r. ⌜ r ≡ neither filled ⌝ }
 {
-    match q {
-        Request::Make { place, sort, group } => 0,
-        Request::Put { object, group } => 0,
-        Request::Take { object, group } => 0,
-        Request::Appoint {
-            place,
-            kind,
-            holder,
-            a,
-            b,
-        } => place,
-        Request::Dismiss { place } => place,
-        Request::Grant {
-            place,
-            users,
-            targets,
-            operations,
-        } => place,
-        Request::Withdraw { place } => place,
-        Request::Use { target, operation } => 0,
+    let appointment = Appointment {
+        kind: 0,
+        holder: 0,
+        a: 0,
+        b: 0,
+    };
+    let rule = AccessRule {
+        used: false,
+        users: 0,
+        targets: 0,
+        operations: 0,
+    };
+    Named {
+        appointment,
+        rule,
+        filled,
     }
 }
 
-// What the tables hold at the place that a request names.
-pub fn named_in(appointments: [Appointment; 32], rules: [AccessRule; 64], q: Request) -> Named
-    ensures { λ r. ⌜ r ≡ namedIn appointments rules q ⌝ }
+// The appointment at place i.
+fn appointment_named(p: Policy, i: u8) -> Named
+    ensures { λ r. ⌜ r ≡ ofAppointment (getD (p .appointments) i noAppointment) ⌝ }
 {
-    let place = place_of(q);
-    let appointment = appointment_at(appointments, place);
-    let rule = rule_at(rules, place);
-    Named { appointment, rule }
+    let appointments = p.appointments;
+    let appointment = appointment_at(appointments, i);
+    let filled = appointment.standing();
+    let rule = AccessRule {
+        used: false,
+        users: 0,
+        targets: 0,
+        operations: 0,
+    };
+    Named {
+        appointment,
+        rule,
+        filled,
+    }
+}
+
+// The rule at place i.
+fn rule_named(p: Policy, i: u8) -> Named
+    ensures { λ r. ⌜ r ≡ ofRule (getD (p .rules) i noRule) ⌝ }
+{
+    let rules = p.rules;
+    let rule = rule_at(rules, i);
+    let filled = rule.used;
+    let appointment = Appointment {
+        kind: 0,
+        holder: 0,
+        a: 0,
+        b: 0,
+    };
+    Named {
+        appointment,
+        rule,
+        filled,
+    }
+}
+
+// What stands at the place that a request names.
+pub fn named_in(p: Policy, q: Request) -> Named
+    ensures { λ r. ⌜ r ≡ namedBy p q ⌝ }
+{
+    match q {
+        Request::Make { place, .. } => {
+            let sorts = p.sorts;
+            neither(sort_in(&sorts, place) != 0)
+        },
+        Request::Put { .. } => neither(false),
+        Request::Take { .. } => neither(false),
+        Request::Appoint { place, .. } => appointment_named(p, place),
+        Request::Dismiss { place } => appointment_named(p, place),
+        Request::Grant { place, .. } => rule_named(p, place),
+        Request::Withdraw { place } => rule_named(p, place),
+        Request::Use { .. } => neither(false),
+    }
 }

@@ -80,15 +80,17 @@ module _ (first : Policy) (b out₀ : Bytes) where
       policy = ap (run p) (sym none) ∙ s .policy-to-come;
     }
 
-    pub reporting-record : {out′ : Bytes} {r start len next at′ : ℕ} (a : Answer) (code cite : ℕ)
+    -- What the next record is judged on, p′, is what the judge handed back.
+    pub reporting-record : {out′ : Bytes} {p′ : Policy} {r start len next at′ : ℕ} (a : Answer) (code cite : ℕ)
         → stepAt b at ≡ Record start len next
         → a ≡ judge p (take (next - start) (drop start b))
         → code ≡ codeOf (a .verdict) → cite ≡ citedOf (a .verdict)
+        → p′ ≡ a .policy
         → Wrote out n (line index code cite) out′ r
         → at′ ≡ next
-        → Reporting out′ (a .policy) at′ (index + 1) r
+        → Reporting out′ p′ at′ (index + 1) r
     unfolding run
-    reporting-record {start = start} {len} {next} {at′} a code cite e j f g w after =
+    reporting-record {start = start} {len} {next} {at′} a code cite e j f g h w after =
         let found : Found b at start len next = step-record b at start len next e in
         let long : next - start ≡ len = omega (arith, found .ends) in
         record {
@@ -96,10 +98,10 @@ module _ (first : Policy) (b out₀ : Bytes) where
           count = simp (length-append, s .count);
           wrote = next-line code cite w;
           to-come =
-              rw (append-assoc, f, g, j, long, after)
+              rw (append-assoc, f, g, h, j, long, after)
               (ap (λ (l : List (ℕ × ℕ)). s .so-far ++ l) (sym (answers-of-record p b at start len next e)) ∙ s .to-come);
           policy-to-come =
-              rw (j, long, after) (ap (run p) (sym (records-of-record b at start len next e)) ∙ s .policy-to-come);
+              rw (h, j, long, after) (ap (run p) (sym (records-of-record b at start len next e)) ∙ s .policy-to-come);
           index-low = omega (arith, s .index-low, found .long);
           within = omega (arith, found .within);
         }

@@ -104,11 +104,13 @@ module _ (b ends codes₀ cited₀ : Bytes) (first : Policy) where
       }
 
   module _ {codes cited : Bytes} {p : Policy} {start i : ℕ} (s : Running codes cited p start i) (low : i < length ends) where
-    pub running-step : (a : Answer) (code cite : ℕ) → a ≡ judge p (part b start (getD ends i 0))
+    -- What the next request is judged on, p′, is what the judge handed back.
+    pub running-step : {p′ : Policy} (a : Answer) (code cite : ℕ) → a ≡ judge p (part b start (getD ends i 0))
         → code ≡ codeOf (a .verdict) → cite ≡ citedOf (a .verdict)
-        → Running (set codes i code) (set cited i cite) (a .policy) (getD ends i 0) (i + 1)
+        → p′ ≡ a .policy
+        → Running (set codes i code) (set cited i cite) p′ (getD ends i 0) (i + 1)
     unfolding parts run
-    running-step a code cite e f g =
+    running-step a code cite e f g h =
         let to-come : parts b start (drop i ends) ≡ part b start (getD ends i 0) ∷ parts b (getD ends i 0) (drop (suc i) ends) =
         ap (parts b start) (drop-cons ends i 0 low) in
         record {
@@ -125,9 +127,9 @@ module _ (b ends codes₀ cited₀ : Bytes) (first : Policy) where
               filled-next (citesOf (s .so-far)) cited₀ cite (s .cited-filled) (length-map (s .so-far) _ ∙ s .count)
               (omega (arith, s .cited-room))
               ∙ ap (λ (l : Bytes). over l cited₀) (sym (map-append _ (s .so-far) ((code, cite) ∷ [])));
-          policy-to-come = rw (add-one, e) (ap (run p) (sym to-come) ∙ s .policy-to-come);
+          policy-to-come = rw (add-one, h, e) (ap (run p) (sym to-come) ∙ s .policy-to-come);
           answers-to-come =
-              rw (add-one, f, g, e, append-assoc)
+              rw (add-one, f, g, h, e, append-assoc)
               (ap (λ (l : List (ℕ × ℕ)). s .so-far ++ l)
               (sym (answers-next p (part b start (getD ends i 0)) (parts b (getD ends i 0) (drop (suc i) ends))))
               ∙ ap (λ (l : List Bytes). s .so-far ++ answers p l) (sym to-come)

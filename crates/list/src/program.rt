@@ -32,8 +32,12 @@ pub fn report_from(p: Policy, input: &[u8], out: &mut [u8]) -> Reported
             } => {
                 let answer = judge(current, &input[start..next]);
                 let verdict = answer.verdict;
-                n = put_line(out, n, index, code_of(verdict), cited_of(verdict));
-                current = answer.policy;
+                let code = code_of(verdict);
+                // A refusal leaves the policy as it stood.
+                if code == 0 {
+                    current = answer.policy;
+                }
+                n = put_line(out, n, index, code, cited_of(verdict));
                 at = read_after(input, at);
                 index = index + 1;
             }

@@ -54,9 +54,13 @@ pub fn run_from(
         let end = ends[i];
         let answer = judge_part(current, bytes, start, end);
         let verdict = answer.verdict;
-        codes[i] = code_of(verdict);
+        let code = code_of(verdict);
+        // A refusal leaves the policy as it stood.
+        if code == 0 {
+            current = answer.policy;
+        }
+        codes[i] = code;
         cited[i] = cited_of(verdict);
-        current = answer.policy;
         start = end;
         i = i + 1;
     }

@@ -1,7 +1,7 @@
 -- Check 6, kind by kind: the lent sorts say what is in use, and what stands at the place named is given.
 use Rattle.rules.specs.Refusals.{absent}
 use Rattle.judge.proofs.Sorting.{empty-lent}
-use Rattle.judge.proofs.Naming.{named-appointment, named-rule}
+use Rattle.judge.proofs.Naming.{dismiss-named, withdraw-named}
 use borrow.Author.Needs.{needs}
 use Rattle.judge.proofs.form.absent.Statement.{statement}
 use Rattle.judge.proofs.form.absent.Tie as tie
@@ -51,7 +51,7 @@ returns-5 c =
     λ p k n. rw (
       c .before .before .q5 .given .1,
       c .standing .ensures,
-      named-appointment p (c .before .before .q5 .given .1) n,
+      dismiss-named p _ n (c .before .before .q5 .given .1),
     )
 
 returns-6 : tie.Need-returns-6
@@ -67,7 +67,7 @@ returns-6 c =
 
 returns-7 : tie.Need-returns-7
 unfolding absent
-returns-7 c = λ p k n. rw (c .before .before .q7 .given .1, named-rule p (c .before .before .q7 .given .1) n)
+returns-7 c = λ p k n. rw (c .before .before .q7 .given .1, withdraw-named p _ n (c .before .before .q7 .given .1))
 
 returns-8 : tie.Need-returns-8
 unfolding absent

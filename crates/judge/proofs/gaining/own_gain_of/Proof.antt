@@ -5,20 +5,22 @@ use Prim.Native.Nat.{ℕ}
 use native.Mathlib.Omega.{arith}
 use Rattle.reach.specs.declared.Policy.{Policy}
 use Rattle.rules.specs.declared.Request.{Request}
-use Rattle.rules.specs.declared.Answer.{Answer}
+use Rattle.rules.specs.declared.Verdict.{Verdict}
+use denote.Ref.{now}
 use Rattle.rules.specs.Records.{sender, request}
 use Rattle.rules.specs.Judging.{codeOf, judge}
 use Rattle.gains.specs.declared.Gain.{Gain}
 use Rattle.gains.specs.declared.Gain.the-variants.{Nothing}
 use Rattle.gains.specs.Giving.{FirstPermission}
 use Rattle.judge.specs.Telling.{OwnGainOf}
+use Rattle.judge.proofs.Ordered.{stages, read-sent, read-asked, judge-verdict}
 use borrow.Author.Needs.{needs}
 use Rattle.judge.proofs.gaining.own_gain_of.Statement.{statement}
 use Rattle.judge.proofs.gaining.own_gain_of.Tie as tie
 
-module _ (p : Policy) (b : List ℕ) (a : Answer) (code : ℕ) (judged : a ≡ judge p b) (coded : code ≡ codeOf (a .verdict)) where
+module _ (p : Policy) (b : List ℕ) (v : Verdict) (code : ℕ) (judged : v ≡ judge p b .verdict) (coded : code ≡ codeOf v) where
   answered : code ≡ codeOf (judge p b .verdict)
-  answered = coded ∙ ap (λ (a : Answer). codeOf (a .verdict)) judged
+  answered = coded ∙ ap codeOf judged
 
   untold : (code ≡ 10 → ⊥) → OwnGainOf p b Nothing
   untold other = record { refused = λ e. absurd (other (answered ∙ e)); otherwise = λ _. refl }
@@ -31,22 +33,28 @@ module _ (p : Policy) (b : List ℕ) (a : Answer) (code : ℕ) (judged : a ≡ j
         otherwise = λ other. absurd (other (sym answered ∙ ten));
       }
 
+-- The stages give the judge's verdict.
+judged : (c : tie.After-harmless)
+    → let s = c .before .before .before .before in
+    c .harmless .result ≡ judge (s .args .p) (now (s .args .bytes)) .verdict
+judged c =
+    let allowed = c .before in
+    let read = allowed .before .read .ensures in
+    judge-verdict _ _ (read-sent _ _ read) (read-asked _ _ read) (stages _ _ read (allowed .allowed .ensures) (c .harmless .ensures))
+
 returns : tie.Need-returns
 returns c =
     let code = c .before in
-    let judging = code .before in
-    untold _ _ _ _ (judging .judge .ensures .0) (code .code-of .ensures) (λ e. omega (arith, e, c .if1 .taken))
+    untold _ _ _ _ (judged (code .before)) (code .code-of .ensures) (λ e. omega (arith, e, c .if1 .taken))
 
 returns-2 : tie.Need-returns-2
 returns-2 c =
-    let asked = c .before in
-    let sent = asked .before in
-    let code = sent .before .before in
-    let judging = code .before in
-    told _ _ _ _ (judging .judge .ensures .0) (code .code-of .ensures) _ _ _
-    (omega (arith, sent .before .if1 .left))
-    (omega (arith, sent .byte .ensures))
-    (asked .request-of .ensures)
+    let code = c .before .before in
+    let read = code .before .before .before .read .ensures in
+    told _ _ _ _ (judged (code .before)) (code .code-of .ensures) _ _ _
+    (omega (arith, c .before .if1 .left))
+    (read-sent _ _ read)
+    (read-asked _ _ read)
     (c .permission-gained .ensures)
 
 pub own-gain-of-spec : {M : Type 1} → statement M
@@ -55,8 +63,8 @@ own-gain-of-spec =
     (tie.spec
     (λ c κs. search needs)
     (λ c κs. search needs)
+    (λ c κs. search needs)
+    (λ c κs. search needs)
     returns
-    (λ c κs. search needs)
-    (λ c κs. search needs)
     (λ c κs. search needs)
     returns-2)

@@ -1,5 +1,6 @@
 -- `report_from` prints the lines of the answers: its loop keeps `Reporting`, each record adds its line, and a torn place or the end closes it.
 use mathlib.Core.Path.{_≡_, sym, _∙_}
+use mathlib.Core.Logic.{⊎-elim}
 use Prim.Native.Nat.{_-_, _<_, _^_}
 use native.Mathlib.Omega.{arith}
 use lib.ListN.{length}
@@ -65,15 +66,26 @@ add-index c =
 loop-less : tie.Need-loop-less Inv-loop μ-loop
 loop-less c = omega (arith, found (told c), moved c)
 
+-- After an accepted record the policy is the one handed back; after a refused one it is the one that stood, which is the same.
+handed-back : (c : tie.Joined1 Inv-loop μ-loop) → c .if1 .current ≡ c .before .before .judge .result .policy
+handed-back c =
+    let coded = c .before in
+    let answered = coded .before .judge .ensures .1 in
+    ⊎-elim
+    (λ w. w .2)
+    (λ w. w .1 ∙ sym (answered .refusal-keeps (λ e. w .0 .left (coded .code-of .ensures ∙ e))))
+    (c .if1 .came)
+
 loop-again : tie.Need-loop-again Inv-loop μ-loop
 loop-again c =
-    let put = c .before .before .before .before in
+    let put = c .before .before .before in
     let cited = put .before in
-    let coded = cited .before in
-    let judged = coded .before .before in
+    let joined = cited .before .before in
+    let coded = joined .before in
     let t = told c in
     reporting-record _ _ _ (t .before .before .before .before .loop .inv) _ _ _ (record-at t)
-    (judged .judge .ensures .0) (coded .code-of .ensures) (cited .cited-of .ensures) (put .put-line .ensures) (moved c)
+    (coded .before .judge .ensures .0) (coded .code-of .ensures) (cited .cited-of .ensures) (handed-back joined) (put .put-line .ensures)
+    (moved c)
 
 same-length : tie.Need-same-length Inv-loop μ-loop
 same-length c =

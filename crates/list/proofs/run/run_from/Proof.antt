@@ -1,8 +1,11 @@
 -- `run_from` runs the list: its loop keeps `Running`, which starts with nothing done and ends with nothing to come; a buffer that is too
 -- short is refused before the loop.
+use mathlib.Core.Path.{_≡_, sym, _∙_}
+use mathlib.Core.Logic.{⊎-elim}
 use Prim.Native.Nat.{_-_}
 use native.Mathlib.Omega.{arith}
 use lib.ListN.{length}
+use Rattle.rules.proofs.Bounded.{one-answer}
 use Rattle.list.proofs.Running.{Running, running-start, running-step, running-end, running-codes, running-cited, too-few-codes}
 use Rattle.list.proofs.Running.{too-few-cited}
 use borrow.Author.Needs.{needs}
@@ -27,26 +30,37 @@ loop-holds c = running-start _ _ _ _ _ (omega (arith, c .before .if1 .left)) (om
 
 slice-write-codes : tie.Need-slice-write-codes Inv-loop μ-loop
 slice-write-codes c =
-    let turn = c .before .before .before in
+    let turn = c .before .before .before .before in
     let s = turn .before .loop .inv in
     omega (arith, turn .loop-test .taken, s .codes-room, running-codes _ _ _ _ _ s)
 
 slice-write-cited : tie.Need-slice-write-cited Inv-loop μ-loop
 slice-write-cited c =
-    let turn = c .before .before .before .before in
+    let turn = c .before .before .before .before .before in
     let s = turn .before .loop .inv in
     omega (arith, turn .loop-test .taken, s .cited-room, running-cited _ _ _ _ _ s)
 
+-- After an accepted record the policy is the one handed back; after a refused one it is the one that stood, which is the same.
+handed-back : (c : tie.Joined3 Inv-loop μ-loop) → c .if3 .current ≡ c .before .before .judge-part .result .policy
+handed-back c =
+    let coded = c .before in
+    let answered = one-answer _ _ _ (coded .before .judge-part .ensures) in
+    ⊎-elim
+    (λ w. w .2)
+    (λ w. w .1 ∙ sym (answered .refusal-keeps (λ e. w .0 .left (coded .code-of .ensures ∙ e))))
+    (c .if3 .came)
+
 loop-again : tie.Need-loop-again Inv-loop μ-loop
 loop-again c =
-    let cited = c .before in
-    let coded = cited .before in
+    let joined = c .before in
+    let coded = joined .before in
     let judged = coded .before in
     let turn = judged .before .before in
     running-step _ _ _ _ _ (turn .before .loop .inv) (turn .loop-test .taken) _ _ _
     (judged .judge-part .ensures)
     (coded .code-of .ensures)
-    (cited .cited-of .ensures)
+    (c .cited-of .ensures)
+    (handed-back joined)
 
 same-length : tie.Need-same-length Inv-loop μ-loop
 same-length c = running-codes _ _ _ _ _ (c .before .loop .inv)
