@@ -53,7 +53,7 @@ returns-2 c =
     let read = code .before .before .before .read .ensures in
     told _ _ _ _ (judged (code .before)) (code .code-of .ensures) _ _ _
     (omega (arith, c .before .if1 .left))
-    (read-sent _ _ read)
+    (omega (arith, read-sent _ _ read))
     (read-asked _ _ read)
     (c .permission-gained .ensures)
 

@@ -1,6 +1,4 @@
 -- Check 12, kind by kind: TAKE and DISMISS are asked of the policy after.
-use mathlib.Core.Path.{ap, _∙_}
-use Rattle.reach.specs.Privileges.{orphaned}
 use Rattle.rules.specs.Doing.{after}
 use Rattle.rules.specs.Refusals.{orphan}
 use borrow.Author.Needs.{needs}
@@ -17,10 +15,7 @@ returns-2 c = rw (c .enum-told2 .given .1)
 
 returns-3 : tie.Need-returns-3
 unfolding orphan after
-returns-3 c =
-    rw
-    (c .before .before .before .q .given .1)
-    (c .orphaned .ensures ∙ ap orphaned (c .before .taken .ensures))
+returns-3 c = rw (c .before .before .before .q .given .1, c .orphaned .ensures, c .before .taken .ensures)
 
 returns-4 : tie.Need-returns-4
 unfolding orphan
@@ -28,10 +23,7 @@ returns-4 c = rw (c .enum-told3 .given .1)
 
 returns-5 : tie.Need-returns-5
 unfolding orphan after
-returns-5 c =
-    rw
-    (c .before .before .before .q2 .given .1)
-    (c .orphaned2 .ensures ∙ ap orphaned (c .before .dismissed .ensures))
+returns-5 c = rw (c .before .before .before .q2 .given .1, c .orphaned2 .ensures, c .before .dismissed .ensures)
 
 returns-6 : tie.Need-returns-6
 unfolding orphan
