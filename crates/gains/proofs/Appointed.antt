@@ -141,20 +141,22 @@ module _ (v : View) (u : ℕ) (w : Appointment) (own : w .holder ≡ u) (user : 
       (λ z. ⊎-elim (λ s. omega (arith, s, e, z .0)) (λ s. omega (arith, s, e, z .0)) k)
       (l .lacks))
 
-  pub lacks-pair : {t : Bool} → w .kind ≡ administrator → InUse v (w .b) → Decides t (Administers v u (w .a) (w .b) → ⊥)
+  pub lacks-pair : {t : Bool} → w .kind ≡ administrator → Decides t (InUse v (w .b) × (Administers v u (w .a) (w .b) → ⊥))
       → Decides t (LacksAppointed v u w)
-  lacks-pair e b d =
+  lacks-pair e d =
       decides-as
       d
-      (λ n. record { own = own; user = user; in-a = a; in-b = λ q. b; lacks = inr (e, n) })
-      (λ l h.
-      ⊎-elim
-      (λ z. ⊎-elim (λ s. omega (arith, s, e)) (λ s. omega (arith, s, e)) (z .0))
-      (λ z. z .1 h)
-      (l .lacks))
+      (λ n. record { own = own; user = user; in-a = a; in-b = λ q. n .0; lacks = inr (e, n .1) })
+      (λ l. (
+        l .in-b e,
+        λ h.
+            ⊎-elim
+            (λ z. ⊎-elim (λ s. omega (arith, s, e)) (λ s. omega (arith, s, e)) (z .0))
+            (λ z. z .1 h)
+            (l .lacks),
+      ))
 
 -- An appointment of no such kind gives nothing.
-pub lacks-none : (v : View) (u : ℕ) (w : Appointment) → (w .kind ≡ owner → ⊥) → (w .kind ≡ manager → ⊥)
-    → ((w .kind ≡ administrator) × InUse v (w .b) → ⊥) → LacksAppointed v u w → ⊥
-lacks-none v u w a b c l =
-    ⊎-elim (λ z. ⊎-elim a b (z .0)) (λ z. c (z .0, l .in-b (z .0))) (l .lacks)
+pub lacks-none : (v : View) (u : ℕ) (w : Appointment) → (w .kind ≡ owner → ⊥) → (w .kind ≡ manager → ⊥) → (w .kind ≡ administrator → ⊥)
+    → LacksAppointed v u w → ⊥
+lacks-none v u w a b c l = ⊎-elim (λ z. ⊎-elim a b (z .0)) (λ z. c (z .0)) (l .lacks)

@@ -13,3 +13,5 @@ pub mod Spreading
 pub mod FirstFound
 pub mod Searched
 pub mod Looking
+pub mod Lending
+pub mod Opening

@@ -2,4 +2,5 @@
 -- and what the search for a permission goes by.
 pub mod Giving
 pub mod Lacking
+pub mod Lending
 pub mod Searching

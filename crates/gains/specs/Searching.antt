@@ -5,6 +5,7 @@ use mathlib.Core.List.{List}
 use mathlib.Core.Logic.{_⊎_}
 use Prim.Native.Nat.{ℕ, _<_}
 use lib.ListN.{length, getD}
+use Rattle.reach.specs.declared.AccessRule.{AccessRule}
 use Rattle.reach.specs.Words.{bit, SetOf, Meet}
 use Rattle.reach.specs.Tests.{Some}
 use Rattle.reach.specs.Tables.{sortIn}
@@ -21,6 +22,13 @@ found Nothing = false
 pub record Joined (n : ℕ) (sets : List ℕ) (Q : ℕ → ℕ → Type 0) (r : List ℕ) : Type 0 where
   pub long : length r ≡ n
   pub row : (i : ℕ) → i < n → SetOf (getD r i 0) (λ x. (bit (getD sets i 0) x ≡ 1) ⊎ Q i x)
+
+-- The rule is in use, has the operation k, and its U and its T are in the sets.
+pub record GrantsOver (r : AccessRule) (users targets k : ℕ) : Type 0 where
+  pub used : r .used ≡ true
+  pub operation : bit (r .operations) k ≡ 1
+  pub in-u : bit users (r .users) ≡ 1
+  pub in-t : bit targets (r .targets) ≡ 1
 
 -- x is in the one set and not in the other.
 pub record New (had got x : ℕ) : Type 0 where

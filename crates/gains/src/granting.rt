@@ -2,11 +2,11 @@
 ghost use mathlib.Core.Path.{_≡_};
 ghost use Prim.Native.Nat.{_<_};
 ghost use lib.ListN.{getD};
-ghost use Rattle.reach.specs.Words.{bit, TableOf};
+ghost use Rattle.reach.specs.Words.{bit, SetOf, TableOf};
 ghost use Rattle.reach.specs.Tests.{Some};
 ghost use Rattle.reach.specs.Tables.{noRule};
 ghost use Rattle.reach.specs.Asking.{HasT};
-ghost use Rattle.gains.specs.Searching.{Joined};
+ghost use Rattle.gains.specs.Searching.{Joined, GrantsOver};
 use reach::AccessRule;
 use reach::has;
 use reach::just;
@@ -50,4 +50,30 @@ pub fn granted(rules: [AccessRule; 64], users: u64) -> [u64; 8]
         i += 1;
     }
     sets
+}
+
+// The operations of this rule, if it is in use, its U is among the users and its T among the targets.
+fn operations_of(rule: AccessRule, users: u64, targets: u64) -> u64
+    ensures { λ r. ⌜ SetOf r (GrantsOver rule users targets) ⌝ }
+{
+    if !rule.used {
+        return 0;
+    }
+    only_if(
+        has(users, rule.users) & has(targets, rule.targets),
+        rule.operations as u64,
+    )
+}
+
+// The operations of all rules in use whose U is among the users and whose T is among the targets.
+pub fn operations_over(rules: [AccessRule; 64], users: u64, targets: u64) -> u64
+    ensures { λ r. ⌜ SetOf r (λ k. Some 64 (λ i. GrantsOver (getD rules i noRule) users targets k)) ⌝ }
+{
+    let mut set: u64 = 0;
+    let mut i: usize = 0;
+    while i < 64 {
+        set |= operations_of(rules[i], users, targets);
+        i += 1;
+    }
+    set
 }

@@ -4,10 +4,13 @@ ghost use mathlib.Core.Logic.{_⊎_};
 ghost use Prim.Native.Nat.{ℕ, _<_};
 ghost use Rattle.reach.specs.Tests.{Some, Decides};
 ghost use Rattle.reach.specs.Tables.{view};
-ghost use Rattle.reach.specs.Reach.{User};
+ghost use Rattle.reach.specs.declared.Policy.{Policy};
+ghost use Rattle.reach.specs.Reach.{InUse, User};
+ghost use Rattle.reach.specs.Privileges.{Administers};
 ghost use Rattle.rules.specs.declared.Request.the-variants.{Put};
 ghost use Rattle.rules.specs.Refusals.{ownGain};
 ghost use Rattle.gains.specs.Lacking.{LacksA, LacksB, LacksPairBy, LacksPermit, Above};
+ghost use Rattle.gains.specs.Lending.{Heard};
 ghost use Rattle.gains.specs.Searching.{found};
 use crate::Gain;
 use crate::granting::granted;
@@ -17,8 +20,47 @@ use crate::searching::worth;
 use reach::Appointment;
 use reach::Policy;
 use reach::climb;
+use reach::covers_pair;
 use reach::has;
 use reach::sort_in;
+
+// Whether b is in use, and u does not administer the pair of what `object` is above and b.
+pub fn lacks_first<'a>(
+    sorts: &'a [u8; 64],
+    memberships: &'a [u64; 64],
+    appointments: [Appointment; 32],
+    u: u8,
+    b: u8,
+    object: u64,
+) -> bool
+    ensures { λ r. ⌜ ((p : Policy) (x : ℕ) → Heard p (now (sorts .entry)) (now (memberships .entry)) appointments u → Above p x object →
+        Decides r (InUse (view p) b × (Administers (view p) u x b → ⊥))) ⌝ }
+{
+    let over = climb(sorts, memberships, b);
+    if over == 0 {
+        return false;
+    }
+    !covers_pair(appointments, u, object, over)
+}
+
+// The same with the sides exchanged.
+fn lacks_second<'a>(
+    sorts: &'a [u8; 64],
+    memberships: &'a [u64; 64],
+    appointments: [Appointment; 32],
+    u: u8,
+    a: u8,
+    object: u64,
+) -> bool
+    ensures { λ r. ⌜ ((p : Policy) (x : ℕ) → Heard p (now (sorts .entry)) (now (memberships .entry)) appointments u → Above p x object →
+        Decides r (InUse (view p) a × (Administers (view p) u a x → ⊥))) ⌝ }
+{
+    let over = climb(sorts, memberships, a);
+    if over == 0 {
+        return false;
+    }
+    !covers_pair(appointments, u, over, object)
+}
 
 // Whether its A is above g and not above x, its B is in use, and u does not administer the pair of x and its B.
 fn first_comes(p: Policy, u: u8, x: u8, w: Appointment, object: u64, group: u64) -> bool

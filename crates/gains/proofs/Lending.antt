@@ -1,0 +1,64 @@
+-- What the lent tables and the sender's appointments tell of the policy whose tables they are.
+use mathlib.Core.Path.{_≡_, sym, subst}
+use mathlib.Core.Bool.{Bool, not}
+use mathlib.Core.List.{List}
+use Prim.Native.Nat.{ℕ}
+use lib.Bits.{bitAnd}
+use lib.Dec.{eqb}
+use lib.ListN.{getD}
+use Rattle.reach.specs.declared.Policy.{Policy}
+use Rattle.reach.specs.declared.Appointment.{Appointment}
+use Rattle.reach.specs.Words.{SetOf}
+use Rattle.reach.specs.Tests.{Some, Decides}
+use Rattle.reach.specs.Tables.{noAppointment, view}
+use Rattle.reach.specs.Reach.{InUse, Under, itself}
+use Rattle.reach.specs.Privileges.{Holds, Administers}
+use Rattle.reach.specs.Asking.{UnderBy, HeldOver, CoversPair}
+use Rattle.reach.proofs.Testing.{decides-as, decides-at, decides-not}
+use Rattle.reach.proofs.WordSets.{set-bits, set-mask, set-empty, set-lowest}
+use Rattle.reach.proofs.Reaching.{under-lower}
+use Rattle.reach.proofs.Deciding.{administers-decides}
+use Rattle.reach.proofs.Meeting.{climbed, meet-holds, holds-meet, pair-covered}
+use Rattle.gains.specs.Lacking.{Above}
+use Rattle.gains.specs.Lending.{Lent, Heard}
+use Rattle.gains.proofs.Searched.{decides-empty}
+
+-- What is climbed on the lent tables is what the object is under.
+pub climbed-lent : (p : Policy) {sorts memberships : List ℕ} {x r : ℕ} → Lent p sorts memberships
+    → SetOf r (λ g. UnderBy sorts memberships x g) → Above p x r
+climbed-lent p {sorts} {memberships} {x} {r} k s =
+    climbed p
+    (subst
+    (λ (m : List ℕ). SetOf r (λ g. UnderBy (p .sorts) m x g))
+    (sym (k .memberships))
+    (subst (λ (l : List ℕ). SetOf r (λ g. UnderBy l memberships x g)) (sym (k .sorts)) s))
+
+-- An object that is under nothing is not in use, and one that is under something is.
+pub above-none : (p : Policy) {x r : ℕ} → Above p x r → r ≡ 0 → InUse (view p) x → ⊥
+above-none p {x} s e i = set-empty s e x (itself i)
+
+pub above-some : (p : Policy) {x r : ℕ} → Above p x r → (r ≡ 0 → ⊥) → InUse (view p) x
+above-some p s n = under-lower (set-lowest s n .1)
+
+-- No one appointment of his covers the pair exactly if he does not administer it.
+pub pair-lacked : (p : Policy) {sorts memberships : List ℕ} {l : List Appointment} {u a b first second : ℕ} {t : Bool}
+    → Heard p sorts memberships l u → Above p a first → Above p b second
+    → Decides t (Some 32 (λ i. CoversPair (getD l i noAppointment) u first second)) → Decides (not t) (Administers (view p) u a b → ⊥)
+pair-lacked p {u = u} {a = a} {b = b} {first = first} {second = second} {t = t} k o s d =
+    decides-not _
+    (decides-at
+    (pair-covered p (k .user) o t s
+    (subst
+    (λ (w : List Appointment). Decides t (Some 32 (λ i. CoversPair (getD w i noAppointment) u first second)))
+    (sym (k .appointments))
+    d))
+    (administers-decides p u a b))
+
+-- Nothing that he is appointed over in that way is above x, exactly if he does not hold x in that way.
+pub held-lacked : (p : Policy) {kind u x held above : ℕ} → SetOf held (HeldOver (view p) kind u) → Above p x above
+    → Decides (eqb (bitAnd held above) 0) (Holds (view p) kind u x → ⊥)
+held-lacked p {held = held} {above = above} h s =
+    decides-as
+    (decides-empty (set-mask held (set-bits above (s .word))))
+    (λ n o. n (holds-meet p h s o))
+    (λ n m. n (meet-holds p h s m))

@@ -1,0 +1,25 @@
+-- The tables of a policy, lent or handed on one by one.
+use mathlib.Core.Path.{_≡_}
+use mathlib.Core.List.{List}
+use Prim.Native.Nat.{ℕ}
+use Rattle.reach.specs.declared.Policy.{Policy}
+use Rattle.reach.specs.declared.Appointment.{Appointment}
+use Rattle.reach.specs.declared.AccessRule.{AccessRule}
+use Rattle.reach.specs.Tables.{view}
+use Rattle.reach.specs.Reach.{User}
+
+-- The sorts and the memberships are those of the policy.
+pub record Lent (p : Policy) (s m : List ℕ) : Type 0 where
+  pub sorts : p .sorts ≡ s
+  pub memberships : p .memberships ≡ m
+
+-- So are the appointments, and u is a user of the policy.
+pub record Heard (p : Policy) (s m : List ℕ) (l : List Appointment) (u : ℕ) : Type 0 where
+  pub lent : Lent p s m
+  pub appointments : p .appointments ≡ l
+  pub user : User (view p) u
+
+-- The sorts, the memberships and the rules are those of the policy.
+pub record Ruled (p : Policy) (s m : List ℕ) (l : List AccessRule) : Type 0 where
+  pub lent : Lent p s m
+  pub rules : p .rules ≡ l
