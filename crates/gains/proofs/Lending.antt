@@ -1,8 +1,8 @@
 -- What the lent tables and the sender's appointments tell of the policy whose tables they are.
-use mathlib.Core.Path.{_≡_, sym, subst}
+use mathlib.Core.Path.{_≡_, sym, ap, _∙_, subst}
 use mathlib.Core.Bool.{Bool, not}
 use mathlib.Core.List.{List}
-use Prim.Native.Nat.{ℕ}
+use Prim.Native.Nat.{ℕ, _-_, _^_}
 use lib.Bits.{bitAnd}
 use lib.Dec.{eqb}
 use lib.ListN.{getD}
@@ -15,8 +15,10 @@ use Rattle.reach.specs.Reach.{InUse, Under, itself}
 use Rattle.reach.specs.Privileges.{Holds, Administers}
 use Rattle.reach.specs.Asking.{UnderBy, HeldOver, CoversPair}
 use Rattle.reach.proofs.Testing.{decides-as, decides-at, decides-not}
-use Rattle.reach.proofs.WordSets.{set-bits, set-mask, set-empty, set-lowest}
-use Rattle.reach.proofs.Reaching.{under-lower}
+use Rattle.reach.proofs.WordSets.{set-as, set-bits, set-mask, set-not, set-empty, set-lowest}
+use Rattle.reach.proofs.Reaching.{under-lower, under-upper}
+use Rattle.reach.proofs.Chains.{in-use-below}
+use Rattle.reach.proofs.AsRead.{appointment-is}
 use Rattle.reach.proofs.Deciding.{administers-decides}
 use Rattle.reach.proofs.Meeting.{climbed, meet-holds, holds-meet, pair-covered}
 use Rattle.gains.specs.Lacking.{Above}
@@ -32,6 +34,19 @@ climbed-lent p {sorts} {memberships} {x} {r} k s =
     (λ (m : List ℕ). SetOf r (λ g. UnderBy (p .sorts) m x g))
     (sym (k .memberships))
     (subst (λ (l : List ℕ). SetOf r (λ g. UnderBy l memberships x g)) (sym (k .sorts)) s))
+
+-- A place of the handed table is that of the policy.
+pub appointment-lent : (p : Policy) {l : List Appointment} → p .appointments ≡ l → (i : ℕ) → view p .appointment i ≡ getD l i noAppointment
+appointment-lent p e i = appointment-is p i ∙ ap (λ (m : List Appointment). getD m i noAppointment) e
+
+-- What is above g and not above x, as a set.
+pub opened-set : (p : Policy) {x g object group : ℕ} → Above p x object → Above p g group
+    → SetOf (bitAnd group (2 ^ 64 - 1 - object)) (λ t. Under (view p) g t × (Under (view p) x t → ⊥))
+opened-set p {group = group} o s =
+    set-as
+    (set-mask group (set-not o))
+    (λ t w. (s .only t (w .0), w .1 .1))
+    (λ t w. (s .all t (w .0), (in-use-below p t (under-upper (w .0)), w .1)))
 
 -- An object that is under nothing is not in use, and one that is under something is.
 pub above-none : (p : Policy) {x r : ℕ} → Above p x r → r ≡ 0 → InUse (view p) x → ⊥
@@ -62,3 +77,8 @@ held-lacked p {held = held} {above = above} h s =
     (decides-empty (set-mask held (set-bits above (s .word))))
     (λ n o. n (holds-meet p h s o))
     (λ n m. n (meet-holds p h s m))
+
+pub held-had : (p : Policy) {kind u x held above : ℕ} → SetOf held (HeldOver (view p) kind u) → Above p x above
+    → (bitAnd held above ≡ 0 → ⊥) → Holds (view p) kind u x
+held-had p {held = held} {above = above} h s n =
+    let r = set-lowest (set-mask held (set-bits above (s .word))) n in meet-holds p h s (record { place = _; low = r .0; at = r .1 })

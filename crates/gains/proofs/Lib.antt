@@ -14,4 +14,5 @@ pub mod FirstFound
 pub mod Searched
 pub mod Looking
 pub mod Lending
-pub mod Opening
+pub mod Covering
+pub mod Verdicts

@@ -1,6 +1,6 @@
 -- One target and one operation of the search: what the words tell is whether the pair is fresh.
 use mathlib.Core.Path.{_≡_, refl, subst}
-use mathlib.Core.Bool.{Bool, true}
+use mathlib.Core.Bool.{true}
 use mathlib.Core.List.{List}
 use mathlib.Core.Logic.{_⊎_, inl, inr, ⊎-elim}
 use Prim.Native.Nat.{ℕ, _<_}
@@ -13,11 +13,11 @@ use Rattle.reach.specs.Tests.{Decides}
 use Rattle.reach.specs.Tables.{sortIn, view}
 use Rattle.reach.specs.Reach.{Under}
 use Rattle.reach.specs.Asking.{reachOf, UnderBy, HeldOver}
-use Rattle.reach.proofs.Testing.{decides-as, some-map}
+use Rattle.reach.proofs.Testing.{some-map}
 use Rattle.reach.proofs.Chains.{in-use-below}
 use Rattle.reach.proofs.WordSets.{set-as, set-or}
 use Rattle.reach.proofs.Meeting.{target-of-sort, meet-holds, holds-meet}
-use Rattle.gains.specs.Lacking.{Above, LacksHeld, UnderPut}
+use Rattle.gains.specs.Lacking.{Above, Grows, LacksHeld, UnderPut}
 use Rattle.gains.specs.Searching.{Fresh}
 
 module _ {s m had got : List ℕ} {x over y k before after : ℕ} (b : SetOf before (λ g. UnderBy s m y g))
@@ -63,11 +63,11 @@ over-too p o s l =
     (λ t w. ⊎-elim (λ c. inl c) (λ c. inr (l, c)) w)
     (λ t w. ⊎-elim (λ c. inl c) (λ c. inr (c .1)) w)
 
--- He holds the group and not the object, by what he is appointed over.
-pub lacks-held-decides : (p : Policy) {kind u x g held object group : ℕ} {t : Bool} → SetOf held (HeldOver (view p) kind u) → Above p x object
-    → Above p g group → Decides t (Meet held group × (Meet held object → ⊥)) → Decides t (LacksHeld (view p) kind u x g)
-lacks-held-decides p h o s d =
-    decides-as
-    d
-    (λ w. record { has = meet-holds p h s (w .0); lacks = λ l. w .1 (holds-meet p h o l) })
-    (λ l. (holds-meet p h s (l .has), λ m. l .lacks (meet-holds p h o m)))
+-- He holds the group and not the object, exactly if what he is appointed over grows.
+module _ (p : Policy) {kind u x g held object group : ℕ} (h : SetOf held (HeldOver (view p) kind u)) (o : Above p x object)
+    (s : Above p g group) where
+  pub grows-lacks : Grows held object group → LacksHeld (view p) kind u x g
+  grows-lacks w = record { has = meet-holds p h s (w .0); lacks = λ l. w .1 (holds-meet p h o l) }
+
+  pub lacks-grows : LacksHeld (view p) kind u x g → Grows held object group
+  lacks-grows l = (holds-meet p h s (l .has), λ m. l .lacks (meet-holds p h o m))

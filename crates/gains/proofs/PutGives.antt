@@ -1,17 +1,14 @@
 -- PUT gives its sender something exactly if he holds g and not x in one of the two ways, or lacks a pair with x, or lacks a permission
 -- that a rule has for him once x is in g. By the laws of what is held and of pairs.
-use mathlib.Core.Path.{_≡_, sym, subst}
-use mathlib.Core.Logic.{inl, inr, ⊎-elim}
 use Prim.Native.Nat.{ℕ}
 use native.Mathlib.Omega.{arith}
 use Rattle.reach.specs.declared.Policy.{Policy}
 use Rattle.reach.specs.Tables.{View, view}
-use Rattle.reach.specs.Reach.{InUse, Group, User, Under}
-use Rattle.reach.specs.Privileges.{Administers, Permitted}
+use Rattle.reach.specs.Reach.{InUse, Group, User}
+use Rattle.reach.specs.Privileges.{owner, manager, Administers, Permitted}
 use Rattle.reach.specs.Changes.{viewPut}
-use Rattle.reach.proofs.Reaching.{under-group}
 use Rattle.rules.specs.Allowing.{Privilege, owning, managing, administering, permission, Has, Gives}
-use Rattle.gains.specs.Lacking.{UnderPut, LacksPermit, LacksPut, held-owner, held-manager, pair, permit}
+use Rattle.gains.specs.Lacking.{LacksHeld, LacksPair, LacksPermit, LacksPut, held-owner, held-manager, pair, permit}
 use Rattle.gains.proofs.Downward.{put-under}
 use Rattle.gains.proofs.PutHeld.{put-gains-held, put-holds-x}
 use Rattle.gains.proofs.PutPair.{put-gains-pair, pair-gained-put, administers-decided}
@@ -81,26 +78,10 @@ pub policy-put-gives : (p : Policy) (u x g : ℕ) → User (view p) u → InUse 
     → Gives (view p) (viewPut (view p) x g) u → LacksPut (view p) u x g
 policy-put-gives p u x g user i j w = put-gives (view p) u x g user i j (administers-decided p u x) w
 
--- PUT of another user gives nobody a permission: nothing but himself is under him.
-pub permit-of-another : (p : Policy) (u x g : ℕ) → User (view p) u → User (view p) x → (x ≡ u → ⊥) → LacksPermit (view p) u x g → ⊥
-permit-of-another p u x g user other n l = go (l .covers-user) (l .covers-gear)
-  where
-    only : {y : ℕ} → Under (view p) y x → y ≡ x
-    only c = ⊎-elim (λ e. e) (λ e. absurd (omega (arith, e, other))) (under-group c)
-
-    go : UnderPut (view p) x g u (view p .rule (l .place) .users) → UnderPut (view p) x g (l .gear) (view p .rule (l .place) .targets) → ⊥
-    go (inr a) b = n (sym (only (a .0)))
-    go (inl a) (inr b) = omega (arith, subst (User (view p)) (sym (only (b .0))) other, l .target)
-    go (inl a) (inl b) =
-        l .lacks
-        (record {
-          user = user;
-          target = l .target;
-          number = l .number;
-          by =
-              record {
-                place = l .place;
-                low = l .low;
-                at = record { used = l .used; operation = l .has; covers-user = a; covers-target = b };
-              };
-        })
+-- None of the four ways.
+pub none-lacks-put : {v : View} {u x g : ℕ} → (LacksHeld v owner u x g → ⊥) → (LacksHeld v manager u x g → ⊥) → (LacksPair v u x g → ⊥)
+    → (LacksPermit v u x g → ⊥) → LacksPut v u x g → ⊥
+none-lacks-put a b c d (held-owner l) = a l
+none-lacks-put a b c d (held-manager l) = b l
+none-lacks-put a b c d (pair l) = c l
+none-lacks-put a b c d (permit l) = d l

@@ -2,10 +2,12 @@
 -- hold one over something that the object is under, of all users.
 use mathlib.Core.Path.{_≡_, sym, ap, _∙_, subst}
 use mathlib.Core.Logic.{_⊎_, inl, inr, ⊎-elim}
-use mathlib.Core.Bool.{not}
+use mathlib.Core.Bool.{Bool}
+use mathlib.Core.List.{List}
 use Prim.Native.Nat.{ℕ, _-_, _^_, _<_}
+use native.Mathlib.Omega.{arith}
 use lib.Bits.{bitAnd, bitOr}
-use lib.Dec.{eqb}
+use borrow.Author.Tests.{eqb-true, eq-eqb}
 use lib.ListN.{getD}
 use Rattle.reach.specs.declared.Policy.{Policy}
 use Rattle.reach.specs.declared.Appointment.{Appointment}
@@ -13,20 +15,21 @@ use Rattle.reach.specs.Words.{bit, SetOf}
 use Rattle.reach.specs.Tests.{Some, Decides}
 use Rattle.reach.specs.Tables.{noAppointment, view}
 use Rattle.reach.specs.Reach.{User, Under}
-use Rattle.reach.specs.Privileges.{owner, manager, Holds}
-use Rattle.reach.proofs.Bits.{bit-none, or-bit, bit-of-or}
+use Rattle.reach.specs.Privileges.{owner, manager, Holds, Owns}
+use Rattle.reach.proofs.Bits.{or-bit, bit-of-or}
 use Rattle.reach.proofs.Testing.{decides-as, some-map}
-use Rattle.reach.proofs.WordSets.{set-bits, set-mask, set-not, decides-nonempty}
+use Rattle.reach.proofs.WordSets.{set-bits, set-mask, set-not}
+use Rattle.reach.proofs.Sorts.{decides-sort}
 use Rattle.reach.proofs.Deciding.{user-below}
-use Rattle.reach.proofs.AsRead.{appointment-is}
-use Rattle.gains.specs.Lacking.{Above, LacksHeld, HolderOf}
+use Rattle.gains.specs.Lacking.{Above, LacksHeld, SomeLacks, LacksOver, HolderOf}
+use Rattle.gains.proofs.Lending.{appointment-lent}
 
-module _ (p : Policy) (kind : ℕ) where
-  -- All who hold an appointment of that kind whose A is in the set.
-  abbrev pub HoldersIn : ℕ → ℕ → Type 0
-  HoldersIn over s = SetOf s (λ u. Some 32 (λ i. (u < 64) × HolderOf (getD (p .appointments) i noAppointment) kind over u))
+-- All who hold an appointment of that kind whose A is in the set.
+abbrev pub HoldersIn : List Appointment → ℕ → ℕ → ℕ → Type 0
+HoldersIn l kind over s = SetOf s (λ u. Some 32 (λ i. (u < 64) × HolderOf (getD l i noAppointment) kind over u))
 
-  module _ {y over s : ℕ} (o : Above p y over) (h : HoldersIn over s) {u : ℕ} (user : User (view p) u) where
+module _ (p : Policy) {l : List Appointment} (read : p .appointments ≡ l) (kind : ℕ) where
+  module _ {y over s : ℕ} (o : Above p y over) (h : HoldersIn l kind over s) {u : ℕ} (user : User (view p) u) where
     holder-holds : bit s u ≡ 1 → Holds (view p) kind u y
     holder-holds b =
         record {
@@ -34,7 +37,7 @@ module _ (p : Policy) (kind : ℕ) where
           by =
               some-map
               (λ i v.
-              let e = sym (appointment-is p i) in
+              let e = sym (appointment-lent p read i) in
               record {
                 is-kind = ap (λ (w : Appointment). w .kind) (sym e) ∙ v .1 .is-kind;
                 is-holder = ap (λ (w : Appointment). w .holder) (sym e) ∙ v .1 .is-holder;
@@ -48,7 +51,7 @@ module _ (p : Policy) (kind : ℕ) where
         h .all u
         (some-map
         (λ i v.
-        let e = appointment-is p i in (
+        let e = appointment-lent p read i in (
           user-below p u user,
           record {
             is-kind = ap (λ (w : Appointment). w .kind) (sym e) ∙ v .is-kind;
@@ -58,7 +61,7 @@ module _ (p : Policy) (kind : ℕ) where
         ))
         (w .by))
 
-  module _ {x g object group a b : ℕ} (o : Above p x object) (s : Above p g group) (h : HoldersIn group a) (k : HoldersIn object b) {u : ℕ}
+  module _ {x g object group a b : ℕ} (o : Above p x object) (s : Above p g group) (h : HoldersIn l kind group a) (k : HoldersIn l kind object b) {u : ℕ}
       (user : User (view p) u) where
     pub lacks-of : bit (bitAnd a (2 ^ 64 - 1 - b)) u ≡ 1 → LacksHeld (view p) kind u x g
     lacks-of c =
@@ -72,29 +75,59 @@ module _ (p : Policy) (kind : ℕ) where
           (user-below p u user, λ c. l .lacks (holder-holds o k user c)),
         )
 
--- Some user holds the group and not the object, in one of the two ways.
-abbrev pub SomeLacks : Policy → ℕ → ℕ → Type 0
-SomeLacks p x g = Some 64 (λ u. LacksHeld (view p) owner u x g ⊎ LacksHeld (view p) manager u x g)
-
-module _ (p : Policy) {x g object group a b c d : ℕ} (o : Above p x object) (s : Above p g group) (h : HoldersIn p 1 group a)
-    (k : HoldersIn p 1 object b) (i : HoldersIn p 2 group c) (j : HoldersIn p 2 object d) where
+module _ (p : Policy) {appointments : List Appointment} (read : p .appointments ≡ appointments) {x g object group a b c d : ℕ}
+    (o : Above p x object) (s : Above p g group) (h : HoldersIn appointments 1 group a) (k : HoldersIn appointments 1 object b)
+    (i : HoldersIn appointments 2 group c) (j : HoldersIn appointments 2 object d) where
   some-set : {u : ℕ} → User (view p) u → (LacksHeld (view p) owner u x g ⊎ LacksHeld (view p) manager u x g)
       → bit (bitOr (bitAnd a (2 ^ 64 - 1 - b)) (bitAnd c (2 ^ 64 - 1 - d))) u ≡ 1
   some-set {u} user w =
-      bit-of-or _ _ u (⊎-elim (λ l. inl (of-lacks p 1 o s h k user l)) (λ l. inr (of-lacks p 2 o s i j user l)) w)
+      bit-of-or _ _ u (⊎-elim (λ l. inl (of-lacks p read 1 o s h k user l)) (λ l. inr (of-lacks p read 2 o s i j user l)) w)
 
   lacks-user : {u : ℕ} → (LacksHeld (view p) owner u x g ⊎ LacksHeld (view p) manager u x g) → User (view p) u
   lacks-user w = ⊎-elim (λ l. l .has .user) (λ l. l .has .user) w
 
-  -- Nobody, where the set is empty; and else the users in it tell.
-  pub none-lacks : bitOr (bitAnd a (2 ^ 64 - 1 - b)) (bitAnd c (2 ^ 64 - 1 - d)) ≡ 0 → SomeLacks p x g → ⊥
-  none-lacks e w = bit-none (w .place) (ap (λ (n : ℕ). bit n (w .place)) (sym e) ∙ some-set (lacks-user (w .at)) (w .at))
-
-  pub some-lacks : {users : ℕ} → SetOf users (User (view p))
-      → Decides (not (eqb (bitAnd (bitOr (bitAnd a (2 ^ 64 - 1 - b)) (bitAnd c (2 ^ 64 - 1 - d))) users) 0)) (SomeLacks p x g)
-  some-lacks m =
+  -- Some one of the set is a user, exactly if some user holds the group and not the object.
+  pub some-lacks : {l : List ℕ} {t : Bool} → p .sorts ≡ l
+      → Decides t
+      (Some 64 (λ u. (bit (bitOr (bitAnd a (2 ^ 64 - 1 - b)) (bitAnd c (2 ^ 64 - 1 - d))) u ≡ 1) × (getD l u 0 ≡ 2)))
+      → Decides t (SomeLacks (view p) x g)
+  some-lacks {l} e m =
       decides-as
-      (decides-nonempty (set-mask (bitOr (bitAnd a (2 ^ 64 - 1 - b)) (bitAnd c (2 ^ 64 - 1 - d))) m))
-      (some-map
-      (λ u w. ⊎-elim (λ e. inl (lacks-of p 1 o s h k (w .1) e)) (λ e. inr (lacks-of p 2 o s i j (w .1) e)) (or-bit _ _ u (w .0))))
-      (some-map (λ u l. (some-set (lacks-user l) l, lacks-user l)))
+      m
+      (λ w.
+      let user = byte-user _ w in
+      record {
+        place = w .place;
+        low = w .low;
+        at =
+            ⊎-elim
+            (λ q. inl (lacks-of p read 1 o s h k user q))
+            (λ q. inr (lacks-of p read 2 o s i j user q))
+            (or-bit _ _ (w .place) (w .at .0));
+      })
+      (some-map (λ u q. (some-set (lacks-user q) q, user-byte u (lacks-user q))))
+    where
+      byte-user : (s : ℕ) (w : Some 64 (λ u. (bit s u ≡ 1) × (getD l u 0 ≡ 2))) → User (view p) (w .place)
+      byte-user s w =
+          decides-sort p (w .place) 2 (w .low) (omega arith) (omega arith)
+          .sound
+          (eq-eqb _ _ (ap (λ (t : List ℕ). getD t (w .place) 0) e ∙ w .at .1))
+
+      user-byte : (u : ℕ) → User (view p) u → getD l u 0 ≡ 2
+      user-byte u user =
+          ap (λ (t : List ℕ). getD t u 0) (sym e)
+          ∙ eqb-true _ _ (decides-sort p u 2 (user-below p u user) (omega arith) (omega arith) .complete user)
+
+-- Where u does not own the object, that is all that hand-over asks.
+pub over-decides : (p : Policy) {u x g : ℕ} {t : Bool} → (Owns (view p) u x → ⊥) → Decides t (SomeLacks (view p) x g)
+    → Decides t (LacksOver (view p) u x g)
+over-decides p n d =
+    decides-as
+    d
+    (λ w. record { not-own = n; who = w .place; lacks = w .at })
+    (λ l.
+    record {
+      place = l .who;
+      low = user-below p _ (⊎-elim (λ s. s .has .user) (λ s. s .has .user) (l .lacks));
+      at = l .lacks;
+    })

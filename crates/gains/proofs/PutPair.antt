@@ -3,6 +3,7 @@
 use mathlib.Core.Path.{_≡_, refl, sym, subst}
 use mathlib.Core.Logic.{_⊎_, inl, inr, ⊎-elim}
 use mathlib.Core.Bool.{Bool, true, false}
+use mathlib.Core.List.{List}
 use Prim.Native.Nat.{ℕ, _<_}
 use lib.ListN.{getD}
 use Rattle.reach.specs.declared.Policy.{Policy}
@@ -14,11 +15,11 @@ use Rattle.reach.specs.Privileges.{administrator, AdministersBy, Administers}
 use Rattle.reach.specs.Changes.{viewPut}
 use Rattle.reach.proofs.Reaching.{under-trans, under-upper}
 use Rattle.reach.proofs.Frames.{put-keeps, put-adds, put-adds-only}
-use Rattle.reach.proofs.AsRead.{appointment-is}
-use Rattle.reach.proofs.Testing.{decides-as, decides-none, refuted}
+use Rattle.reach.proofs.Testing.{refuted}
 use Rattle.reach.proofs.Deciding.{administers-decides}
 use Rattle.gains.specs.Lacking.{LacksA, LacksB, LacksPairBy, LacksPair}
 use Rattle.gains.proofs.Downward.{administers-down}
+use Rattle.gains.proofs.Lending.{appointment-lent}
 
 -- A pair that he has after a change and lacked before.
 pub record PairGained (v n : View) (u a b : ℕ) : Type 0 where
@@ -157,26 +158,24 @@ decided false d = no (refuted d refl)
 pub administers-decided : (p : Policy) (u a b : ℕ) → Dec (Administers (view p) u a b)
 administers-decided p u a b = decided _ (administers-decides p u a b)
 
--- A place of the table tells, as the policy's own.
-pub lacks-pair-at : (p : Policy) (u x g i : ℕ) {t : Bool} → let w = getD (p .appointments) i noAppointment in
-    Decides t (((w .kind ≡ administrator) × (w .holder ≡ u)) × (LacksA (view p) u x g (w .a) (w .b) ⊎ LacksB (view p) u x g (w .a) (w .b)))
-    → Decides t (LacksPairBy (view p) u x g i)
-lacks-pair-at p u x g i {t} d =
-    decides-as
-    (subst
-    (λ (w : Appointment). Decides t
-    (((w .kind ≡ administrator) × (w .holder ≡ u)) × (LacksA (view p) u x g (w .a) (w .b) ⊎ LacksB (view p) u x g (w .a) (w .b))))
-    (sym (appointment-is p i))
-    d)
-    (λ w. record { is-kind = w .0 .0; is-holder = w .0 .1; side = w .1 })
-    (λ l. ((l .is-kind, l .is-holder), l .side))
+-- ---- One place of the table that is handed on
 
-pub lacks-pair-not : (p : Policy) (u x g i : ℕ) → let w = getD (p .appointments) i noAppointment in
-    (((w .kind ≡ administrator) × (w .holder ≡ u)) × (LacksA (view p) u x g (w .a) (w .b) ⊎ LacksB (view p) u x g (w .a) (w .b)) → ⊥)
-    → LacksPairBy (view p) u x g i → ⊥
-lacks-pair-not p u x g i n = refuted (lacks-pair-at p u x g i (decides-none n)) refl
+-- A side that is above g and not above x, and the pair of x and the other side that he lacks.
+pub side-a : {v : View} {u x g a b : ℕ} → Under v g a × (Under v x a → ⊥) → InUse v b × (Administers v u x b → ⊥) → LacksA v u x g a b
+side-a s o = record { above = s .0; not-above = s .1; other = o .0; lacks = o .1 }
 
-pub lacks-pair-here : (p : Policy) (u x g i : ℕ) → let w = getD (p .appointments) i noAppointment in
-    ((w .kind ≡ administrator) × (w .holder ≡ u)) × (LacksA (view p) u x g (w .a) (w .b) ⊎ LacksB (view p) u x g (w .a) (w .b))
-    → LacksPairBy (view p) u x g i
-lacks-pair-here p u x g i h = lacks-pair-at p u x g i (record { sound = λ e. h; complete = λ w. refl }) .sound refl
+pub side-b : {v : View} {u x g a b : ℕ} → Under v g b × (Under v x b → ⊥) → InUse v a × (Administers v u a x → ⊥) → LacksB v u x g a b
+side-b s o = record { above = s .0; not-above = s .1; other = o .0; lacks = o .1 }
+
+module _ (p : Policy) (u x g i : ℕ) {l : List Appointment} (e : p .appointments ≡ l) where
+  -- This appointment is an administrator's, his, and one of its sides tells.
+  abbrev pub TellsPair : Appointment → Type 0
+  TellsPair w =
+      ((w .kind ≡ administrator) × (w .holder ≡ u)) × (LacksA (view p) u x g (w .a) (w .b) ⊎ LacksB (view p) u x g (w .a) (w .b))
+
+  pub lacks-pair-here : TellsPair (getD l i noAppointment) → LacksPairBy (view p) u x g i
+  lacks-pair-here h =
+      let w = subst TellsPair (sym (appointment-lent p e i)) h in record { is-kind = w .0 .0; is-holder = w .0 .1; side = w .1 }
+
+  pub lacks-pair-not : (TellsPair (getD l i noAppointment) → ⊥) → LacksPairBy (view p) u x g i → ⊥
+  lacks-pair-not n w = n (subst TellsPair (appointment-lent p e i) ((w .is-kind, w .is-holder), w .side))

@@ -1,5 +1,5 @@
 -- What the search finds is what is gained. The tables of what is granted, held against what a target is under, are what is permitted; so a
--- pair is fresh exactly if a permission comes, and where the search is not worth while there is none.
+-- pair is fresh exactly if a permission comes.
 use mathlib.Core.Path.{_≡_, refl, sym, ap, _∙_, subst}
 use mathlib.Core.Bool.{Bool, true, false, true≢false, not, _&&_}
 use mathlib.Core.List.{List}
@@ -28,7 +28,8 @@ use Rattle.reach.proofs.Meeting.{target-of-sort, sort-of-target}
 use Rattle.gains.specs.declared.Gain.{Gain}
 use Rattle.gains.specs.declared.Gain.the-variants.{Permission, Nothing}
 use Rattle.gains.specs.Lacking.{Above, UnderPut, LacksPermit, LacksRuled}
-use Rattle.gains.specs.Searching.{found, Joined, FirstFresh, Fresh, Worth}
+use Rattle.gains.specs.Lending.{Ruled}
+use Rattle.gains.specs.Searching.{found, Joined, FirstFresh, Fresh}
 
 -- ---- Words
 
@@ -48,53 +49,11 @@ pub fresh-decides : (had got before after : ℕ) → after < 2 ^ 64 → before <
 fresh-decides had got before after a b =
     decides-and _ _ (decides-nonempty (set-mask got (set-bits after a))) (decides-empty (set-mask had (set-bits before b)))
 
--- Whether two words meet is decided.
-meet-or : (a b : ℕ) → b < 2 ^ 64 → Meet a b ⊎ (Meet a b → ⊥)
-meet-or a b w = go _ (decides-nonempty (set-mask a (set-bits b w)))
-  where
-    go : (t : Bool) → Decides t (Meet a b) → Meet a b ⊎ (Meet a b → ⊥)
-    go true d = inl (d .sound refl)
-    go false d = inr (λ m. true≢false (sym (d .complete m)))
-
--- ---- Where the search is not worth while
-
-pub worth-none : {s m had got : List ℕ} {x object group : ℕ} → SetOf object (λ g. UnderBy s m x g)
-    → (Some 8 (λ k. Worth (getD had k 0) (getD got k 0) object group) → ⊥) → (y k : ℕ) → k < 8 → Fresh s m had got x group y k → ⊥
-worth-none {s} {m} {had} {got} {x} {object} {group} o n y k l f =
-    ⊎-elim
-    (λ z.
-    n
-    (record {
-      place = k;
-      low = l;
-      at = inl (record { place = f .now .place; low = f .now .low; at = record { now = f .now .at .0; lacked = bit-clash _ _ z } });
-    }))
-    (λ b. ⊎-elim (λ u. f .lacked (record { place = f .now .place; low = f .now .low; at = (b, u) })) through (f .now .at .1))
-    (bit-two (getD had k 0) (f .now .place))
-  where
-    through : UnderBy s m y x × (bit group (f .now .place) ≡ 1) → ⊥
-    through w =
-        ⊎-elim
-        (λ q.
-        f .lacked
-        (record { place = q .place; low = q .low; at = (q .at .0, under-trans (w .0) (o .only _ (q .at .1))) }))
-        (λ q.
-        n
-        (record {
-          place = k;
-          low = l;
-          at = inr (record { place = f .now .place; low = f .now .low; at = (f .now .at .0, w .1) }, q);
-        }))
-        (meet-or (getD had k 0) object (o .word))
-
 -- What is found decides what is fresh somewhere.
 pub found-decides : {P : ℕ → ℕ → Type 0} {Q : Type 0} (r : Gain) → FirstFresh P r → ((y k : ℕ) → k < 8 → P y k → Q)
     → (Q → (y : ℕ) × (k : ℕ) × (k < 8) × P y k) → Decides (found r) Q
 found-decides (Permission y k) f g h = record { sound = λ e. g y k (f .0) (f .1); complete = λ q. refl }
 found-decides Nothing f g h = decides-none (λ q. let w = h q in f (w .0) (w .1) (w .2) (w .3))
-
-above-by : (p : Policy) {x object : ℕ} → Above p x object → SetOf object (λ g. UnderBy (p .sorts) (p .memberships) x g)
-above-by p o = set-as o (λ g l. under-by p l) (λ g l. under-of p l)
 
 -- ---- The tables of what is granted
 
@@ -238,14 +197,9 @@ module _ (p : Policy) {u over : ℕ} (user : User (view p) u) (o : Above p u ove
         low (inl c) = top c
         low (inr c) = top (c .1)
 
-    -- What the search finds, and that without worth there is nothing to find.
+    -- What the search finds.
     pub put-found : (r : Gain) → FirstFresh (Fresh (p .sorts) (p .memberships) had got x group) r → Decides (found r) (LacksPermit (view p) u x g)
     put-found r f = found-decides r f fresh-lacks (λ l. (l .gear, l .operation, l .number, lacks-fresh l))
-
-    pub put-worthless : {object : ℕ} → Above p x object → (Some 8 (λ k. Worth (getD had k 0) (getD got k 0) object group) → ⊥)
-        → Decides false (LacksPermit (view p) u x g)
-    put-worthless b n =
-        decides-none (λ l. worth-none {had = had} {got = got} (above-by p b) n (l .gear) (l .operation) (l .number) (lacks-fresh l))
 
   -- GRANT: the same users, and the T of the new rule for each of its operations.
   module _ {r : AccessRule} (among : Under (view p) u (r .users)) {one : ℕ} (s : SetOf one (λ t. (t < 64) × (r .targets ≡ t)))
@@ -289,27 +243,19 @@ module _ (p : Policy) {u over : ℕ} (user : User (view p) u) (o : Above p u ove
     pub grant-found : (q : Gain) → FirstFresh (Fresh (p .sorts) (p .memberships) had got 0 0) q → Decides (found q) (LacksRuled (view p) u r)
     grant-found q f = found-decides q f fresh-ruled (λ l. (l .gear, l .operation, l .number, ruled-fresh l))
 
-    pub grant-worthless : (Some 8 (λ k. Worth (getD had k 0) (getD got k 0) 0 0) → ⊥) → Decides false (LacksRuled (view p) u r)
-    grant-worthless n =
-        decides-none
-        (λ l.
-        not-worth (l .operation) (l .number) (l .gear) (ruled-fresh l))
-      where
-        -- Nothing is put anywhere, so what is fresh is newly granted.
-        not-worth : (k : ℕ) → k < 8 → (y : ℕ) → Fresh (p .sorts) (p .memberships) had got 0 0 y k → ⊥
-        not-worth k l y f =
-            ⊎-elim
-            (λ z.
-            n
-            (record {
-              place = k;
-              low = l;
-              at =
-                  inl (record { place = f .now .place; low = f .now .low; at = record { now = f .now .at .0; lacked = bit-clash _ _ z } });
-            }))
-            (λ b.
-            ⊎-elim
-            (λ v. f .lacked (record { place = f .now .place; low = f .now .low; at = (b, v) }))
-            (λ v. bit-none _ (v .1))
-            (f .now .at .1))
-            (bit-two (getD had k 0) (f .now .place))
+-- The same, by tables that are lent and handed on.
+pub put-found-lent : (p : Policy) {u over x g group more : ℕ} {sorts memberships had got : List ℕ} {rules : List AccessRule}
+    → Ruled p sorts memberships rules → User (view p) u → Above p u over → TableOf 8 had (GrantedAt rules over) → Above p g group
+    → SetOf more (λ t. UnderPut (view p) x g u t) → TableOf 8 got (GrantedAt rules more) → (r : Gain)
+    → FirstFresh (Fresh sorts memberships had got x group) r → Decides (found r) (LacksPermit (view p) u x g)
+put-found-lent p {over = over} {x = x} {group = group} {more = more} {memberships = memberships} {had = had} {got = got} k user o h a w t r f =
+    put-found p user o
+    (subst (λ (l : List AccessRule). TableOf 8 had (GrantedAt l over)) (sym (k .rules)) h)
+    a
+    w
+    (subst (λ (l : List AccessRule). TableOf 8 got (GrantedAt l more)) (sym (k .rules)) t)
+    r
+    (subst
+    (λ (m : List ℕ). FirstFresh (Fresh (p .sorts) m had got x group) r)
+    (sym (k .lent .memberships))
+    (subst (λ (s : List ℕ). FirstFresh (Fresh s memberships had got x group) r) (sym (k .lent .sorts)) f))

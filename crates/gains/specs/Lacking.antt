@@ -6,7 +6,7 @@ use mathlib.Core.Logic.{_⊎_}
 use Prim.Native.Nat.{ℕ, _<_}
 use Rattle.reach.specs.declared.Appointment.{Appointment}
 use Rattle.reach.specs.declared.AccessRule.{AccessRule}
-use Rattle.reach.specs.Words.{bit, SetOf}
+use Rattle.reach.specs.Words.{bit, SetOf, Meet}
 use Rattle.reach.specs.Tests.{Some}
 use Rattle.reach.specs.declared.Policy.{Policy}
 use Rattle.reach.specs.Tables.{View, view}
@@ -21,6 +21,10 @@ Above p x s = SetOf s (λ g. Under (view p) x g)
 pub record LacksHeld (v : View) (kind u x g : ℕ) : Type 0 where
   pub has : Holds v kind u g
   pub lacks : Holds v kind u x → ⊥
+
+-- What he is appointed over meets what is above g, and nothing that is above x.
+abbrev pub Grows : ℕ → ℕ → ℕ → Type 0
+Grows held object group = Meet held group × (Meet held object → ⊥)
 
 -- The appointment at place i makes him an administrator, and one of its sides is above g and not above x, and he lacks the pair of x and
 -- the other side.
@@ -44,6 +48,10 @@ pub record LacksPairBy (v : View) (u x g i : ℕ) : Type 0 where
 
 abbrev pub LacksPair : View → ℕ → ℕ → ℕ → Type 0
 LacksPair v u x g = Some 32 (LacksPairBy v u x g)
+
+-- Some user holds g and not x, in one of the two ways.
+abbrev pub SomeLacks : View → ℕ → ℕ → Type 0
+SomeLacks v x g = Some 64 (λ u. LacksHeld v owner u x g ⊎ LacksHeld v manager u x g)
 
 -- Somebody holds g and not x, and u does not own x.
 pub record LacksOver (v : View) (u x g : ℕ) : Type 0 where

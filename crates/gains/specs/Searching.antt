@@ -6,7 +6,7 @@ use mathlib.Core.Logic.{_⊎_}
 use Prim.Native.Nat.{ℕ, _<_}
 use lib.ListN.{length, getD}
 use Rattle.reach.specs.declared.AccessRule.{AccessRule}
-use Rattle.reach.specs.Words.{bit, SetOf, Meet}
+use Rattle.reach.specs.Words.{bit, SetOf}
 use Rattle.reach.specs.Tests.{Some}
 use Rattle.reach.specs.Tables.{sortIn}
 use Rattle.reach.specs.Asking.{UnderBy}
@@ -53,6 +53,7 @@ pub record Fresh (sorts memberships had got : List ℕ) (x over y k : ℕ) : Typ
       × (UnderBy sorts memberships y t ⊎ (UnderBy sorts memberships y x × (bit over t ≡ 1))))
   pub lacked : Some 64 (λ t. (bit (getD had k 0) t ≡ 1) × UnderBy sorts memberships y t) → ⊥
 
--- Something is newly granted, or granted over what is above the group and not over what is above the object.
-abbrev pub Worth : ℕ → ℕ → ℕ → ℕ → Type 0
-Worth had got object group = Some 64 (New had got) ⊎ (Meet got group × (Meet had object → ⊥))
+-- The rule is in use, and it newly covers him, or it covers him and its T is newly above something.
+pub record Opens (r : AccessRule) (users more opened : ℕ) : Type 0 where
+  pub used : r .used ≡ true
+  pub by : (bit more (r .users) ≡ 1) ⊎ ((bit users (r .users) ≡ 1) × (bit opened (r .targets) ≡ 1))

@@ -1,20 +1,17 @@
 // Check 11: what PUT would hand over.
 ghost use mathlib.Core.Path.{_≡_};
-ghost use Prim.Native.Nat.{_<_};
+ghost use Prim.Native.Nat.{ℕ, _<_};
 ghost use lib.ListN.{getD};
-ghost use Rattle.reach.specs.Words.{SetOf};
-ghost use Rattle.reach.specs.Tests.{Some};
-ghost use Rattle.reach.specs.Tables.{noAppointment};
-ghost use Rattle.rules.specs.declared.Request.the-variants.{Put};
-ghost use Rattle.rules.specs.Refusals.{handOver};
-ghost use Rattle.gains.specs.Lacking.{HolderOf};
+ghost use Rattle.reach.specs.declared.Policy.{Policy};
+ghost use Rattle.reach.specs.Words.{bit, SetOf};
+ghost use Rattle.reach.specs.Tests.{Some, Decides, _⇒_∥_};
+ghost use Rattle.reach.specs.Tables.{noAppointment, view};
+ghost use Rattle.rules.specs.declared.Verdict.the-variants.{Done, HandOver};
+ghost use Rattle.gains.specs.Lacking.{HolderOf, SomeLacks, Above};
 use reach::Appointment;
-use reach::Policy;
-use reach::climb;
 use reach::has;
 use reach::just;
-use reach::sort_in;
-use rules::Request;
+use rules::Verdict;
 
 // The holder of this appointment, if it is of that kind and its A is in the set.
 fn holder_of(w: Appointment, kind: u8, over: u64) -> u64
@@ -42,54 +39,42 @@ fn holders(appointments: [Appointment; 32], kind: u8, over: u64) -> u64
     set
 }
 
-// PUT hands something over exactly if its sender does not own the object, and some user holds the group and not the object in one of the
-// two ways.
-fn put_hands_over(p: Policy, u: u8, x: u8, g: u8) -> bool
-    ensures { λ r. ⌜ r ≡ handOver p u (Put x g) ⌝ }
+// Whether some one of these is a user.
+fn some_user(sorts: &[u8; 64], set: u64) -> bool
+    ensures { λ r. ⌜ Decides r (Some 64 (λ h. (bit set h ≡ 1) × (getD (now (sorts .entry)) h 0 ≡ 2))) ⌝ }
 {
-    let put = sort_in(&p.sorts, x);
-    let into = sort_in(&p.sorts, g);
-    if !((put != 0) & (into == 1)) {
-        return false;
+    let mut left = set;
+    while left != 0 {
+        let h = u64::trailing_zeros(left) as usize;
+        if sorts[h] == 2 {
+            return true;
+        }
+        left &= !(1u64 << h);
     }
-    if p.owns(u, x) {
-        return false;
-    }
-    let object = climb(&p.sorts, &p.memberships, x);
-    let group = climb(&p.sorts, &p.memberships, g);
-    let appointments = p.appointments;
-    let owners = holders(appointments, 1, group) & !holders(appointments, 1, object);
-    let managers = holders(appointments, 2, group) & !holders(appointments, 2, object);
-    if owners | managers == 0 {
-        return false;
-    }
-    let m = p.masks();
-    (owners | managers) & m.users != 0
+    false
 }
 
-// Check 11.
-pub fn hand_over(p: Policy, u: u8, q: Request) -> bool
-    ensures { λ r. ⌜ r ≡ handOver p u q ⌝ }
+// Whether some user holds the group and not the object, as an owner or as a manager.
+pub fn hands_over(
+    sorts: &[u8; 64],
+    appointments: [Appointment; 32],
+    object: u64,
+    group: u64,
+) -> bool
+    ensures { λ r. ⌜ ((p : Policy) (x g : ℕ) → p .sorts ≡ now (sorts .entry) → p .appointments ≡ appointments →
+        Above p x object → Above p g group → Decides r (SomeLacks (view p) x g)) ⌝ }
 {
-    match q {
-        Request::Make { place, sort, group } => false,
-        Request::Put { object, group } => put_hands_over(p, u, object, group),
-        Request::Take { object, group } => false,
-        Request::Appoint {
-            place,
-            kind,
-            holder,
-            a,
-            b,
-        } => false,
-        Request::Dismiss { place } => false,
-        Request::Grant {
-            place,
-            users,
-            targets,
-            operations,
-        } => false,
-        Request::Withdraw { place } => false,
-        Request::Use { target, operation } => false,
+    let owners = holders(appointments, 1, group) & !holders(appointments, 1, object);
+    let managers = holders(appointments, 2, group) & !holders(appointments, 2, object);
+    some_user(sorts, owners | managers)
+}
+
+// The verdict where there is no own gain: hand-over, if there is one, and else done.
+pub fn handed(over: bool) -> Verdict
+    ensures { λ r. ⌜ r ≡ (over ⇒ HandOver ∥ Done) ⌝ }
+{
+    if over {
+        return Verdict::HandOver;
     }
+    Verdict::Done
 }

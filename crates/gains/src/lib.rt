@@ -2,13 +2,12 @@
 // judged by what its two objects are under; only a permission is searched for, target by target.
 mod granting;
 mod handing;
+mod opening;
 mod own;
 mod putting;
 mod searching;
 
-pub use handing::hand_over;
 pub use own::giving;
-pub use own::own_gain;
 pub use searching::gained;
 
 // A permission that is gained, target and operation, or none.

@@ -1,6 +1,8 @@
-// Check 10: own gain, of the kinds that can have it.
+// Checks 10 and 11 of every kind of request, and own gain by APPOINT and GRANT.
 ghost use mathlib.Core.Path.{_≡_};
+ghost use Rattle.reach.specs.Tests.{_⇒_∥_};
 ghost use Rattle.rules.specs.declared.Request.the-variants.{Grant};
+ghost use Rattle.rules.specs.declared.Verdict.the-variants.{Done, OwnGain};
 ghost use Rattle.rules.specs.Allowing.{appointing};
 ghost use Rattle.rules.specs.Refusals.{ownGain};
 ghost use Rattle.gains.specs.Giving.{givenBy};
@@ -8,9 +10,8 @@ use crate::Gain;
 use crate::granting::granted;
 use crate::granting::operations_over;
 use crate::granting::spread;
-use crate::handing::hand_over;
 use crate::putting::lacks_first;
-use crate::putting::put_gains;
+use crate::putting::put_gives;
 use crate::searching::first_fresh;
 use reach::AccessRule;
 use reach::Appointment;
@@ -81,27 +82,24 @@ fn grant_gains(p: Policy, u: u8, place: u8, rule: AccessRule) -> bool
     }
 }
 
-// Checks 10 and 11: own gain or hand-over, whichever is first, and else done.
-pub fn giving(p: Policy, u: u8, q: Request) -> Verdict
-    ensures { λ r. ⌜ r ≡ givenBy p u q ⌝ }
+// The verdict on a request that hands nothing over: own gain, if there is one, and else done.
+fn own(gained: bool) -> Verdict
+    ensures { λ r. ⌜ r ≡ (gained ⇒ OwnGain ∥ Done) ⌝ }
 {
-    if own_gain(p, u, q) {
+    if gained {
         return Verdict::OwnGain;
-    }
-    if hand_over(p, u, q) {
-        return Verdict::HandOver;
     }
     Verdict::Done
 }
 
-// Check 10.
-pub fn own_gain(p: Policy, u: u8, q: Request) -> bool
-    ensures { λ r. ⌜ r ≡ ownGain p u q ⌝ }
+// Checks 10 and 11: own gain or hand-over, whichever is first, and else done.
+pub fn giving(p: Policy, u: u8, q: Request) -> Verdict
+    ensures { λ r. ⌜ r ≡ givenBy p u q ⌝ }
 {
     match q {
-        Request::Make { place, sort, group } => false,
-        Request::Put { object, group } => put_gains(p, u, object, group),
-        Request::Take { object, group } => false,
+        Request::Make { place, sort, group } => Verdict::Done,
+        Request::Put { object, group } => put_gives(p, u, object, group),
+        Request::Take { object, group } => Verdict::Done,
         Request::Appoint {
             place,
             kind,
@@ -110,9 +108,9 @@ pub fn own_gain(p: Policy, u: u8, q: Request) -> bool
             b,
         } => {
             let w = Appointment { kind, holder, a, b };
-            appoint_gains(p, u, place, w)
+            own(appoint_gains(p, u, place, w))
         },
-        Request::Dismiss { place } => false,
+        Request::Dismiss { place } => Verdict::Done,
         Request::Grant {
             place,
             users,
@@ -125,9 +123,9 @@ pub fn own_gain(p: Policy, u: u8, q: Request) -> bool
                 targets,
                 operations,
             };
-            grant_gains(p, u, place, rule)
+            own(grant_gains(p, u, place, rule))
         },
-        Request::Withdraw { place } => false,
-        Request::Use { target, operation } => false,
+        Request::Withdraw { place } => Verdict::Done,
+        Request::Use { target, operation } => Verdict::Done,
     }
 }

@@ -1,28 +1,32 @@
-// Own gain by a PUT, asked of what its object and its group are under.
+// What a PUT gives its sender and hands over to others, asked of what its object and its group are under.
 ghost use mathlib.Core.Path.{_≡_};
 ghost use mathlib.Core.Logic.{_⊎_};
-ghost use Prim.Native.Nat.{ℕ, _<_};
-ghost use Rattle.reach.specs.Tests.{Some, Decides};
-ghost use Rattle.reach.specs.Tables.{view};
+ghost use Prim.Native.Nat.{ℕ};
 ghost use Rattle.reach.specs.declared.Policy.{Policy};
-ghost use Rattle.reach.specs.Reach.{InUse, User};
+ghost use Rattle.reach.specs.Tests.{Decides};
+ghost use Rattle.reach.specs.Tables.{view};
+ghost use Rattle.reach.specs.Reach.{InUse};
 ghost use Rattle.reach.specs.Privileges.{Administers};
 ghost use Rattle.rules.specs.declared.Request.the-variants.{Put};
-ghost use Rattle.rules.specs.Refusals.{ownGain};
-ghost use Rattle.gains.specs.Lacking.{LacksA, LacksB, LacksPairBy, LacksPermit, Above};
+ghost use Rattle.gains.specs.Giving.{givenBy};
+ghost use Rattle.gains.specs.Lacking.{Grows, LacksPair, Above};
 ghost use Rattle.gains.specs.Lending.{Heard};
-ghost use Rattle.gains.specs.Searching.{found};
-use crate::Gain;
-use crate::granting::granted;
-use crate::searching::first_fresh;
+use crate::handing::handed;
+use crate::handing::hands_over;
+use crate::opening::is_found;
+use crate::opening::put_permission;
+use crate::opening::rules_open;
 use crate::searching::fresh;
-use crate::searching::worth;
 use reach::Appointment;
 use reach::Policy;
+use reach::Posts;
 use reach::climb;
 use reach::covers_pair;
 use reach::has;
+use reach::only_if;
+use reach::posts_of;
 use reach::sort_in;
+use rules::Verdict;
 
 // Whether b is in use, and u does not administer the pair of what `object` is above and b.
 pub fn lacks_first<'a>(
@@ -62,48 +66,34 @@ fn lacks_second<'a>(
     !covers_pair(appointments, u, over, object)
 }
 
-// Whether its A is above g and not above x, its B is in use, and u does not administer the pair of x and its B.
-fn first_comes(p: Policy, u: u8, x: u8, w: Appointment, object: u64, group: u64) -> bool
-    ensures { λ r. ⌜ ((g : ℕ) → Above p x object → Above p g group → Decides r (LacksA (view p) u x g (w .a) (w .b))) ⌝ }
+// Whether u comes to administer a pair by an administrator's appointment of his: one of its sides is above g and not above x, and he lacks the
+// pair of x and the other side.
+fn pairs_come<'a>(
+    sorts: &'a [u8; 64],
+    memberships: &'a [u64; 64],
+    appointments: [Appointment; 32],
+    u: u8,
+    object: u64,
+    group: u64,
+) -> bool
+    ensures { λ r. ⌜ ((p : Policy) (x g : ℕ) → Heard p (now (sorts .entry)) (now (memberships .entry)) appointments u →
+        Above p x object → Above p g group → Decides r (LacksPair (view p) u x g)) ⌝ }
 {
-    if !(has(group, w.a) & !has(object, w.a) & p.in_use(w.b)) {
-        return false;
-    }
-    !p.administers(u, x, w.b)
-}
-
-// The same with the sides exchanged.
-fn second_comes(p: Policy, u: u8, x: u8, w: Appointment, object: u64, group: u64) -> bool
-    ensures { λ r. ⌜ ((g : ℕ) → Above p x object → Above p g group → Decides r (LacksB (view p) u x g (w .a) (w .b))) ⌝ }
-{
-    if !(has(group, w.b) & !has(object, w.b) & p.in_use(w.a)) {
-        return false;
-    }
-    !p.administers(u, w.a, x)
-}
-
-// Whether u comes to administer a pair by this administrator's appointment of his: that of x and its other side.
-fn pair_by(p: Policy, u: u8, x: u8, w: Appointment, object: u64, group: u64) -> bool
-    ensures { λ r. ⌜ ((g : ℕ) → Above p x object → Above p g group →
-        Decides r (LacksA (view p) u x g (w .a) (w .b) ⊎ LacksB (view p) u x g (w .a) (w .b))) ⌝ }
-{
-    if first_comes(p, u, x, w, object, group) {
-        return true;
-    }
-    second_comes(p, u, x, w, object, group)
-}
-
-// Whether by one of his appointments. The policy is handed on for those alone that are his and an administrator's.
-fn pairs_come(p: Policy, u: u8, x: u8, object: u64, group: u64) -> bool
-    ensures { λ r. ⌜ ((g : ℕ) → Above p x object → Above p g group → Decides r (Some 32 (LacksPairBy (view p) u x g))) ⌝ }
-{
+    let opened = group & !object;
     let mut i: usize = 0;
     while i < 32 {
-        let w = p.appointments[i];
+        let w = appointments[i];
         if w.holder == u {
             if w.kind == 3 {
-                if pair_by(p, u, x, w, object, group) {
-                    return true;
+                if has(opened, w.a) {
+                    if lacks_first(sorts, memberships, appointments, u, w.b, object) {
+                        return true;
+                    }
+                }
+                if has(opened, w.b) {
+                    if lacks_second(sorts, memberships, appointments, u, w.a, object) {
+                        return true;
+                    }
                 }
             }
         }
@@ -112,56 +102,53 @@ fn pairs_come(p: Policy, u: u8, x: u8, object: u64, group: u64) -> bool
     false
 }
 
-// The permission that the search finds: one that u has once x is in g, and lacks before. There is none, if x is another user; and unless he
-// is under x himself, the rules that cover him stay the same.
-fn put_permission(p: Policy, u: u8, x: u8, object: u64, group: u64) -> Gain
-    ensures { λ r. ⌜ ((g : ℕ) → User (view p) u → Above p x object → Above p g group →
-        Decides (found r) (LacksPermit (view p) u x g)) ⌝ }
+// Whether what he is appointed over, as an owner or as a manager, has something above the group and nothing above the object.
+fn posts_grow(posts: Posts, object: u64, group: u64) -> bool
+    ensures { λ r. ⌜ Decides r (Grows (posts .owner) object group ⊎ Grows (posts .manager) object group) ⌝ }
 {
-    if (sort_in(&p.sorts, x) == 2) & (x != u) {
-        return Gain::Nothing;
-    }
-    let over = climb(&p.sorts, &p.memberships, u);
-    let rules = p.rules;
-    let had = granted(rules, over);
-    if !has(over, x) {
-        if !worth(had, had, object, group) {
-            return Gain::Nothing;
-        }
-        return first_fresh(&p.sorts, &p.memberships, had, had, x, group);
-    }
-    let got = granted(rules, over | group);
-    if !worth(had, got, object, group) {
-        return Gain::Nothing;
-    }
-    first_fresh(&p.sorts, &p.memberships, had, got, x, group)
-}
-
-// PUT gives its sender something exactly if he holds the group and not the object in one of the two ways, or a pair comes, or a permission
-// is found.
-pub fn put_gains(p: Policy, u: u8, x: u8, g: u8) -> bool
-    ensures { λ r. ⌜ r ≡ ownGain p u (Put x g) ⌝ }
-{
-    let sender = sort_in(&p.sorts, u);
-    let put = sort_in(&p.sorts, x);
-    let into = sort_in(&p.sorts, g);
-    if !((sender == 2) & (put != 0) & (into == 1)) {
-        return false;
-    }
-    let object = p.above(x);
-    let group = p.above(g);
-    let posts = p.posts(u);
     if fresh(posts.owner, posts.owner, object, group) {
         return true;
     }
-    if fresh(posts.manager, posts.manager, object, group) {
-        return true;
+    fresh(posts.manager, posts.manager, object, group)
+}
+
+// Checks 10 and 11 of a PUT. Its sender gains exactly if he holds the group and not the object in one of the two ways, or a pair comes, or a
+// permission is found; and it hands over exactly if he does not own the object, and some user holds the group and not the object. Who is no
+// user gains nothing and owns nothing.
+pub fn put_gives(p: Policy, u: u8, x: u8, g: u8) -> Verdict
+    ensures { λ r. ⌜ r ≡ givenBy p u (Put x g) ⌝ }
+{
+    let sorts = p.sorts;
+    let memberships = p.memberships;
+    let appointments = p.appointments;
+    let rules = p.rules;
+    let put = sort_in(&sorts, x);
+    let into = sort_in(&sorts, g);
+    if !((put != 0) & (into == 1)) {
+        return Verdict::Done;
     }
-    if pairs_come(p, u, x, object, group) {
-        return true;
+    let object = climb(&sorts, &memberships, x);
+    let group = climb(&sorts, &memberships, g);
+    let sender = sort_in(&sorts, u);
+    if sender != 2 {
+        return handed(hands_over(&sorts, appointments, object, group));
     }
-    match put_permission(p, u, x, object, group) {
-        Gain::Permission(y, k) => true,
-        Gain::Nothing => false,
+    let posts = posts_of(appointments, u);
+    if posts_grow(posts, object, group) {
+        return Verdict::OwnGain;
     }
+    if pairs_come(&sorts, &memberships, appointments, u, object, group) {
+        return Verdict::OwnGain;
+    }
+    let over = climb(&sorts, &memberships, u);
+    let more = only_if(has(over, x), group & !over);
+    if rules_open(rules, over, more, group & !object) {
+        if is_found(put_permission(&sorts, &memberships, rules, over, x, group)) {
+            return Verdict::OwnGain;
+        }
+    }
+    if posts.owner & object != 0 {
+        return Verdict::Done;
+    }
+    handed(hands_over(&sorts, appointments, object, group))
 }

@@ -4,7 +4,7 @@ ghost use mathlib.Core.Logic.{_⊎_};
 ghost use lib.ListN.{getD};
 ghost use Rattle.reach.specs.Words.{bit, SetOf, Meet};
 ghost use Rattle.reach.specs.Tests.{Some, Decides};
-ghost use Rattle.gains.specs.Searching.{New, FirstNew, Fresh, FirstFresh, Worth};
+ghost use Rattle.gains.specs.Searching.{New, FirstNew, Fresh, FirstFresh};
 use crate::Gain;
 use reach::climb;
 use reach::has;
@@ -97,22 +97,4 @@ pub fn first_fresh<'a>(
         y += 1;
     }
     found
-}
-
-// Whether the search is worth while: where for no operation something is newly granted, or granted over what is above the group and not
-// over what is above the object, it finds nothing.
-pub fn worth(had: [u64; 8], got: [u64; 8], object: u64, group: u64) -> bool
-    ensures { λ r. ⌜ Decides r (Some 8 (λ k. Worth (getD had k 0) (getD got k 0) object group)) ⌝ }
-{
-    let mut k: usize = 0;
-    while k < 8 {
-        if got[k] & !had[k] != 0 {
-            return true;
-        }
-        if fresh(had[k], got[k], object, group) {
-            return true;
-        }
-        k += 1;
-    }
-    false
 }

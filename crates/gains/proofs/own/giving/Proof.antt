@@ -1,16 +1,81 @@
--- The first of the two checks that applies.
+-- PUT can give and hand over, APPOINT and GRANT can give alone; of the others the rule says that neither check applies.
+use mathlib.Core.Path.{_≡_, refl, sym, ap, subst}
+use Rattle.rules.specs.declared.Request.{Request}
+use Rattle.rules.specs.Refusals.{ownGain, handOver}
+use Rattle.gains.specs.Giving.{givenBy}
+use Rattle.gains.proofs.Verdicts.{given-alone}
 use borrow.Author.Needs.{needs}
 use Rattle.gains.proofs.own.giving.Statement.{statement}
 use Rattle.gains.proofs.own.giving.Tie as tie
 
 returns : tie.Need-returns
-returns c = simp (← c .before .own-gain .ensures, c .if1 .taken)
+unfolding ownGain handOver
+returns c = let a = c .before .before .before .args in sym (ap (givenBy (a .p) (a .u)) (c .before .q .given .1))
 
 returns-2 : tie.Need-returns-2
-returns-2 c = simp (← c .before .before .before .own-gain .ensures, c .before .before .if1 .left, ← c .before .hand-over .ensures, c .if2 .taken)
+returns-2 c =
+    let a = c .before .before .before .before .args in
+    subst
+    (λ (r : Request). c .put-gives .result ≡ givenBy (a .p) (a .u) r)
+    (sym (c .before .before .q2 .given .1))
+    (c .put-gives .ensures)
 
 returns-3 : tie.Need-returns-3
-returns-3 c = simp (← c .before .before .before .own-gain .ensures, c .before .before .if1 .left, ← c .before .hand-over .ensures, c .if2 .left)
+unfolding ownGain handOver
+returns-3 c = let a = c .before .before .before .args in sym (ap (givenBy (a .p) (a .u)) (c .before .q3 .given .1))
+
+returns-4 : tie.Need-returns-4
+unfolding handOver
+returns-4 c =
+    let a = c .before .before .before .before .before .args in
+    subst
+    (λ (r : Request). c .own .result ≡ givenBy (a .p) (a .u) r)
+    (sym (c .before .before .before .q4 .given .1))
+    (given-alone _ _ _ refl (c .before .appoint-gains .ensures) (c .own .ensures))
+
+returns-5 : tie.Need-returns-5
+unfolding ownGain handOver
+returns-5 c = let a = c .before .before .before .args in sym (ap (givenBy (a .p) (a .u)) (c .before .q5 .given .1))
+
+returns-6 : tie.Need-returns-6
+unfolding handOver
+returns-6 c =
+    let a = c .before .before .before .before .before .args in
+    subst
+    (λ (r : Request). c .own2 .result ≡ givenBy (a .p) (a .u) r)
+    (sym (c .before .before .before .q6 .given .1))
+    (given-alone _ _ _ refl (c .before .grant-gains .ensures) (c .own2 .ensures))
+
+returns-7 : tie.Need-returns-7
+unfolding ownGain handOver
+returns-7 c = let a = c .before .before .before .args in sym (ap (givenBy (a .p) (a .u)) (c .before .q7 .given .1))
+
+returns-8 : tie.Need-returns-8
+unfolding ownGain handOver
+returns-8 c = let a = c .before .before .before .args in sym (ap (givenBy (a .p) (a .u)) (c .before .q8 .given .1))
 
 pub giving-spec : {M : Type 1} → statement M
-giving-spec = tie.close (tie.spec (λ c κs. search needs) returns (λ c κs. search needs) returns-2 returns-3)
+giving-spec =
+    tie.close
+    (tie.spec
+    (λ c. search needs)
+    (λ c. search needs)
+    (λ c κs. search needs)
+    (λ c. search needs)
+    (λ c. search needs)
+    (λ c κs. search needs)
+    (λ c κs. search needs)
+    (λ c. search needs)
+    (λ c. search needs)
+    (λ c κs. search needs)
+    (λ c κs. search needs)
+    (λ c. search needs)
+    (λ c. search needs)
+    returns
+    returns-2
+    returns-3
+    returns-4
+    returns-5
+    returns-6
+    returns-7
+    returns-8)

@@ -15,7 +15,7 @@ use Rattle.gains.specs.Lacking.{Above, LacksRuled}
 use Rattle.gains.specs.Searching.{found}
 use Rattle.gains.proofs.Outright.{newRule, grant-own-gain, grant-gains-none}
 use Rattle.gains.proofs.Searched.{grant-found}
-use Rattle.gains.proofs.Opening.{none-lacks-ruled}
+use Rattle.gains.proofs.Covering.{none-lacks-ruled}
 use Rattle.gains.proofs.Looking.{decides-found}
 use borrow.Author.Needs.{needs}
 use Rattle.gains.proofs.own.grant_gains.Statement.{statement}

@@ -1,57 +1,98 @@
 -- The loop has met no appointment by which a pair comes: it is another's, or no administrator's, or neither of its sides tells.
 use mathlib.Core.Path.{_≡_}
-use mathlib.Core.Logic.{⊎-elim}
+use mathlib.Core.Logic.{inl, inr, ⊎-elim}
 use native.Mathlib.Omega.{arith}
 use Prim.Native.Nat.{ℕ, _-_, _≤_}
+use Rattle.reach.specs.declared.Policy.{Policy}
 use Rattle.reach.specs.Tests.{Some}
 use Rattle.reach.specs.Tables.{view}
-use Rattle.reach.proofs.Testing.{refuted, decides-none, decides-some-at, some-not-start, some-not-next, some-not-end}
+use Rattle.reach.proofs.Testing.{refuted, decides-at, decides-none, decides-some-at, some-not-start, some-not-next, some-not-end}
+use Rattle.reach.proofs.WordSets.{decides-has}
 use Rattle.gains.specs.Lacking.{LacksPairBy, Above}
-use Rattle.gains.proofs.PutPair.{lacks-pair-not, lacks-pair-here}
+use Rattle.gains.specs.Lending.{Heard}
+use Rattle.gains.proofs.Lending.{opened-set}
+use Rattle.gains.proofs.PutPair.{side-a, side-b, lacks-pair-here, lacks-pair-not}
 use borrow.Author.Needs.{needs}
 use Rattle.gains.proofs.putting.pairs_come.Statement.{statement}
 use Rattle.gains.proofs.putting.pairs_come.Tie as tie
 
 abbrev Inv-loop : tie.InvT-loop
-Inv-loop u x object group p i₀ i =
-    (i ≤ 32) × ((g : ℕ) → Above p x object → Above p g group → Some i (LacksPairBy (view p) u x g) → ⊥)
+Inv-loop sorts memberships u object group appointments opened i₀ i =
+    (i ≤ 32)
+    × ((p : Policy) (x g : ℕ) → Heard p sorts memberships appointments u → Above p x object → Above p g group
+    → Some i (LacksPairBy (view p) u x g) → ⊥)
 
 abbrev μ-loop : tie.MeasureT-loop
-μ-loop u x object group p i₀ i = 32 - i
+μ-loop sorts memberships u object group appointments opened i₀ i = 32 - i
 
 loop-holds : tie.Need-loop-holds Inv-loop μ-loop
-loop-holds c = (search needs, λ g o s w. some-not-start w)
-
-element-copy-out-w : tie.Need-element-copy-out-w Inv-loop μ-loop
-element-copy-out-w c = c .loop-test .taken
+loop-holds c = (search needs, λ p x g k o s w. some-not-start w)
 
 returns : tie.Need-returns Inv-loop μ-loop
-returns c = λ g o s.
-    let k = c .before .before in
-    let h = k .before .before in
-    let t = h .before .before .before in
-    decides-some-at _ (t .loop-test .taken)
-    (lacks-pair-here _ _ _ _ _ ((k .if2 .taken, h .if1 .taken), c .before .pair-by .ensures g o s .sound (c .if3 .taken)))
+returns c = λ p x g k o s.
+    let h = c .before .before in
+    let t = h .before .before in
+    let b = t .before .before in
+    decides-some-at _ (b .before .before .before .loop-test .taken)
+    (lacks-pair-here p _ _ _ _ (k .appointments) (
+      (t .if2 .taken, b .if1 .taken),
+      inl
+          (side-a
+          (decides-at (h .before .has .ensures) (decides-has (opened-set p o s) _) .sound (h .if3 .taken))
+          (c .before .lacks-first .ensures p x k o .sound (c .if4 .taken))),
+    ))
+
+returns-2 : tie.Need-returns-2 Inv-loop μ-loop
+returns-2 c = λ p x g k o s.
+    let h = c .before .before in
+    let t = h .before .before .before .before in
+    let b = t .before .before in
+    decides-some-at _ (b .before .before .before .loop-test .taken)
+    (lacks-pair-here p _ _ _ _ (k .appointments) (
+      (t .if2 .taken, b .if1 .taken),
+      inr
+          (side-b
+          (decides-at (h .before .has2 .ensures) (decides-has (opened-set p o s) _) .sound (h .if5 .taken))
+          (c .before .lacks-second .ensures p x k o .sound (c .if6 .taken))),
+    ))
 
 loop-again : tie.Need-loop-again Inv-loop μ-loop
 loop-again c =
     let l = c .before .before .before .before in (
       search needs,
-      λ g o s w.
+      λ p x g k o s w.
           some-not-next
-          (l .loop .inv .1 g o s)
-          (lacks-pair-not _ _ _ _ _
+          (l .loop .inv .1 p x g k o s)
+          (lacks-pair-not p _ _ _ _ (k .appointments)
           (λ v.
           ⊎-elim
-          (λ b. refuted (b .3 .ensures g o s) (b .4 .left) (v .1))
-          (⊎-elim (λ b. b .2 .left (v .0 .0)) (λ b. b .left (v .0 .1)))
+          (λ b.
+          ⊎-elim
+          (λ m.
+          ⊎-elim
+          (λ z. refuted (z .1 .ensures p x k o) (z .2 .left) (m .other, m .lacks))
+          (λ z. refuted (decides-at (b .3 .ensures) (decides-has (opened-set p o s) _)) (z .left) (m .above, m .not-above))
+          (b .4 .came))
+          (λ m. refuted (b .7 .ensures p x k o) (b .8 .left) (m .other, m .lacks))
+          (v .1))
+          (⊎-elim
+          (λ b.
+          ⊎-elim
+          (λ m.
+          ⊎-elim
+          (λ z. refuted (z .1 .ensures p x k o) (z .2 .left) (m .other, m .lacks))
+          (λ z. refuted (decides-at (b .3 .ensures) (decides-has (opened-set p o s) _)) (z .left) (m .above, m .not-above))
+          (b .4 .came))
+          (λ m. refuted (decides-at (b .5 .ensures) (decides-has (opened-set p o s) _)) (b .6 .left) (m .above, m .not-above))
+          (v .1))
+          (⊎-elim (λ b. b .2 .left (v .0 .0)) (λ b. b .left (v .0 .1))))
           (c .if1 .came)))
           w,
     )
 
-returns-2 : tie.Need-returns-2 Inv-loop μ-loop
-returns-2 c = λ g o s.
-    decides-none (λ w. some-not-end 32 (omega (arith, c .loop-test .left)) (c .before .loop .inv .1 g o s) w)
+returns-3 : tie.Need-returns-3 Inv-loop μ-loop
+returns-3 c = λ p x g k o s.
+    decides-none (λ w. some-not-end 32 (omega (arith, c .loop-test .left)) (c .before .loop .inv .1 p x g k o s) w)
 
 pub pairs-come-spec : {M : Type 1} → statement M
 pairs-come-spec =
@@ -61,10 +102,14 @@ pairs-come-spec =
     μ-loop
     loop-holds
     (λ c. search needs)
-    element-copy-out-w
+    (λ c. search needs)
+    (λ c κs. search needs)
     (λ c κs. search needs)
     returns
+    (λ c κs. search needs)
+    (λ c κs. search needs)
+    returns-2
     (λ c. search needs)
     (λ c. search needs)
     loop-again
-    returns-2)
+    returns-3)
