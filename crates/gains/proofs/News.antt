@@ -4,7 +4,7 @@ use Prim.Native.Nat.{ℕ, _-_, _^_, _<_}
 use lib.Bits.{bitAnd}
 use Rattle.reach.specs.Words.{SetOf}
 use Rattle.reach.specs.Tests.{Some}
-use Rattle.reach.proofs.WordSets.{set-as, set-bits, set-below, set-mask, set-not, set-lowest, set-empty}
+use Rattle.reach.proofs.WordSets.{set-as, set-bits, set-below, set-mask, set-not, set-empty}
 use Rattle.gains.specs.Searching.{New}
 
 -- `got & !had` is the set of what is new.
@@ -14,10 +14,6 @@ new-set had got h g =
     (set-mask got (set-not (set-bits had h)))
     (λ x w. record { now = w .0; lacked = w .1 .1 })
     (λ x n. (n .now, (set-below (set-bits got g) x (n .now), n .lacked)))
-
-pub news-yes : (had got : ℕ) → had < 2 ^ 64 → got < 2 ^ 64 → (bitAnd got (2 ^ 64 - 1 - had) ≡ 0 → ⊥) → Some 64 (New had got)
-news-yes had got h g n =
-    let r = set-lowest (new-set had got h g) n in record { place = _; low = r .0; at = r .1 }
 
 pub news-no : (had got : ℕ) → had < 2 ^ 64 → got < 2 ^ 64 → bitAnd got (2 ^ 64 - 1 - had) ≡ 0 → Some 64 (New had got) → ⊥
 news-no had got h g e w = set-empty (new-set had got h g) e (w .place) (w .at)

@@ -1,7 +1,7 @@
 -- What the search finds is what is gained. The tables of what is granted, held against what a target is under, are what is permitted; so a
 -- pair is fresh exactly if a permission comes.
 use mathlib.Core.Path.{_≡_, refl, sym, ap, _∙_, subst}
-use mathlib.Core.Bool.{Bool, true, false, true≢false, not, _&&_}
+use mathlib.Core.Bool.{Bool, true, false, not, _&&_}
 use mathlib.Core.List.{List}
 use mathlib.Core.Logic.{_⊎_, inl, inr, ⊎-elim}
 use Prim.Native.Nat.{ℕ, _^_, _<_}
@@ -17,10 +17,10 @@ use Rattle.reach.specs.Tables.{noRule, view}
 use Rattle.reach.specs.Reach.{User, Target, Under}
 use Rattle.reach.specs.Privileges.{Permitted}
 use Rattle.reach.specs.Asking.{UnderBy, HasT}
-use Rattle.reach.proofs.Bits.{bit-two, bit-clash, bit-none}
+use Rattle.reach.proofs.Bits.{bit-none}
 use Rattle.reach.proofs.Testing.{some-map, decides-and, decides-none}
-use Rattle.reach.proofs.WordSets.{set-as, set-bits, set-mask, set-empty, decides-nonempty}
-use Rattle.reach.proofs.Reaching.{under-trans, under-upper}
+use Rattle.reach.proofs.WordSets.{set-bits, set-mask, set-empty, decides-nonempty}
+use Rattle.reach.proofs.Reaching.{under-upper}
 use Rattle.reach.proofs.Chains.{in-use-below}
 use Rattle.reach.proofs.AsRead.{rule-is}
 use Rattle.reach.proofs.Upward.{under-of, under-by}

@@ -84,14 +84,14 @@ pub fn first_fresh<'a>(
         if sort_in(sorts, y) == 3 {
             let before = climb(sorts, memberships, y);
             let after = with_put(before, x, over);
-            let mut k: u8 = 0;
-            while k < 8 {
-                let i = k as usize;
+            let mut operation: u8 = 0;
+            while operation < 8 {
+                let i = operation as usize;
                 if fresh(had[i], got[i], before, after) {
-                    found = Gain::Permission(y, k);
+                    found = Gain::Permission(y, operation);
                     break 'search;
                 }
-                k += 1;
+                operation += 1;
             }
         }
         y += 1;

@@ -36,7 +36,7 @@ element-copy-out-if1 c = low c .0
 returns : tie.Need-returns Inv-loop μ-loop
 returns c =
     let i = c .before .before in
-    decides-some-at (trailingZeros 64 (i .before .loop .left)) (low i .0) (i .before .loop .inv .within _ (low i .1), c .if1 .taken)
+    decides-some-at (trailingZeros 64 (i .before .loop .left)) (low i .0) (i .before .loop .inv .within _ (low i .1), omega (arith, c .if1 .taken))
 
 shl-left : tie.Need-shl-left Inv-loop μ-loop
 shl-left c = low (c .before .before) .0
@@ -48,7 +48,7 @@ loop-less c =
 loop-again : tie.Need-loop-again Inv-loop μ-loop
 loop-again c =
     let i = c .before .before in
-    pick-step false (i .before .loop .inv) (trailingZeros 64 (i .before .loop .left)) (low i .1) (decides-none (c .if1 .left))
+    pick-step false (i .before .loop .inv) (trailingZeros 64 (i .before .loop .left)) (low i .1) (decides-none (λ e. omega (arith, e, c .if1 .left)))
     (set-none (λ x w. false≢true (w .0)))
 
 returns-2 : tie.Need-returns-2 Inv-loop μ-loop

@@ -6,7 +6,7 @@ use Prim.Native.Nat.{_<_}
 use borrow.Author.Tests.{not-true, not-false}
 use Rattle.reach.specs.Tests.{Decides}
 use Rattle.reach.specs.Tables.{Sized, view}
-use Rattle.reach.specs.Reach.{User, Under}
+use Rattle.reach.specs.Reach.{User}
 use Rattle.reach.proofs.Lists.{length-mapped}
 use Rattle.reach.proofs.Testing.{decides-at, decides-and, decides-ltb, decides-none, refuted}
 use Rattle.reach.proofs.WordSets.{decides-has}

@@ -1,5 +1,4 @@
 -- The loop has met no appointment by which a pair comes: it is another's, or no administrator's, or neither of its sides tells.
-use mathlib.Core.Path.{_≡_}
 use mathlib.Core.Logic.{inl, inr, ⊎-elim}
 use native.Mathlib.Omega.{arith}
 use Prim.Native.Nat.{ℕ, _-_, _≤_}

@@ -1,7 +1,7 @@
 -- Unless the object is in use and the group a group, PUT gives and hands over nothing. Who is no user gains nothing; a user gains in one of
 -- four ways; and where he does not, those who hold the group and not the object tell, unless he owns the object.
 use mathlib.Core.Path.{_≡_, refl, sym, _∙_}
-use mathlib.Core.Bool.{Bool, true, false, not, _&&_}
+use mathlib.Core.Bool.{true, false, not, _&&_}
 use mathlib.Core.Logic.{inl, inr, ⊎-elim}
 use Prim.Native.Nat.{ℕ}
 use lib.Dec.{eqb}
@@ -16,7 +16,7 @@ use Rattle.reach.proofs.Testing.{decides-at, decides-and, decides-none, refuted
 use Rattle.reach.proofs.Meeting.{user-of-sort, sort-of-user, read-group, read-in-use, climbed, posts-of-user}
 use Rattle.rules.specs.declared.Request.the-variants.{Put}
 use Rattle.rules.specs.Refusals.{ownGain}
-use Rattle.gains.specs.Lacking.{Above, LacksPermit, LacksPut, held-owner, held-manager, pair, permit}
+use Rattle.gains.specs.Lacking.{Above, LacksPut, held-owner, held-manager, pair, permit}
 use Rattle.gains.specs.Lending.{Heard, Ruled}
 use Rattle.gains.proofs.Outright.{put-gains-none, put-own-gain, put-hands-none, put-hand-over}
 use Rattle.gains.proofs.PutGives.{none-lacks-put}

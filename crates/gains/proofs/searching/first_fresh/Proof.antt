@@ -54,7 +54,7 @@ search-again c =
     let none : (j : ℕ) → j < 8 → Fresh _ _ _ _ _ _ (s .search .y) j → ⊥ =
     ⊎-elim
     (λ w j m n. w .3 .inv .2 j (omega (arith, m, w .4 .left)) n)
-    (λ w j m n. w .0 .left (c .before .sort-in .ensures ∙ n .target))
+    (λ w j m n. omega (arith, w .0 .left, c .before .sort-in .ensures, n .target))
     (c .if1 .came) in (
       search needs,
       ⊎-elim (λ w. w .5 ∙ w .3 .inv .1) (λ w. w .1 ∙ s .search .inv .1) (c .if1 .came),
