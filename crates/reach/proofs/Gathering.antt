@@ -1,5 +1,5 @@
--- Loops that go through the numbers of a set, the lowest first: what is left grows less, and of the numbers that are no longer left those
--- of which P holds are picked, or their rows are joined.
+-- Loops that go through the numbers of a set, the lowest first: what is left grows less, of the numbers that are no longer left those
+-- of which P holds are picked, and the rows of those that are picked are joined.
 use mathlib.Core.Path.{_≡_, refl, sym, ap, subst, _∙_}
 use mathlib.Core.Bool.{Bool, true}
 use mathlib.Core.List.{List}
@@ -12,9 +12,10 @@ use lib.Arith.{lt-of-le-ne}
 use lib.Pow.{ones-sub-lt}
 use lib.ListN.{getD}
 use Rattle.reach.specs.Words.{bit, SetOf}
-use Rattle.reach.specs.Tests.{Some, Decides}
+use Rattle.reach.specs.Tests.{Decides}
 use Rattle.reach.specs.Asking.{Joined}
 use Rattle.reach.proofs.Bits.{bit-le, bit-two, bit-clash, bit-none, bit-not, or-bit, bit-of-or, lowest-bit, or-grows}
+use Rattle.reach.proofs.Testing.{some-map}
 use Rattle.reach.proofs.WordSets.{set-bits, set-as, set-or, set-mask, set-not, set-one, set-below, set-none}
 
 -- ---- What is left
@@ -90,83 +91,31 @@ module _ {P : ℕ → Type 0} {set : ℕ} where
 
 -- ---- Rows joined
 
--- The rows joined are those of the numbers of the set that are no longer left.
-abbrev Gone : List ℕ → ℕ → ℕ → ℕ → Type 0
-Gone rows set left g = Some 64 (λ y. ((bit set y ≡ 1) × (bit left y ≡ 1 → ⊥)) × (bit (getD rows y 0) g ≡ 1))
+-- The rows of no number have nothing.
+pub join-start : (rows : List ℕ) → SetOf 0 (Joined rows 0)
+join-start rows = set-none (λ g w. bit-none (w .place) (w .at .0))
 
-pub record Joining (rows : List ℕ) (set all left : ℕ) : Type 0 where
-  pub left-word : left < 2 ^ 64
-  pub within : (y : ℕ) → bit left y ≡ 1 → bit set y ≡ 1
-  pub only : (g : ℕ) → bit all g ≡ 1 → Gone rows set left g
-  pub every : (g : ℕ) → Gone rows set left g → bit all g ≡ 1
-
-module _ (rows : List ℕ) (set : ℕ) where
-  pub join-start : set < 2 ^ 64 → Joining rows set 0 set
-  join-start w =
-      record {
-        left-word = w;
-        within = λ y e. e;
-        only = λ g b. absurd (bit-none g b);
-        every = λ g s. absurd (s .at .0 .1 (s .at .0 .0));
-      }
-
-  pub join-step : {all left : ℕ} → Joining rows set all left → (h : ℕ) → bit left h ≡ 1
-      → Joining rows set (bitOr all (getD rows h 0)) (bitAnd left (2 ^ 64 - 1 - (1 * 2 ^ h) % 2 ^ 64))
-  join-step {all} {left} s h e =
-      let rest = left-rest (s .left-word) h e in
-      record {
-        left-word = rest .word;
-        within = λ y b. s .within y (rest .only y b .0);
-        only = λ g b.
-            ⊎-elim
-            (λ o.
-            let a = s .only g o in
-            record {
-              place = a .place;
-              low = a .low;
-              at = ((a .at .0 .0, λ l. a .at .0 .1 (rest .only _ l .0)), a .at .1);
-            })
-            (λ o.
-            record {
-              place = h;
-              low = left-low (s .left-word) h e;
-              at = ((s .within h e, λ l. rest .only h l .1 .1 refl), o);
-            })
-            (or-bit all (getD rows h 0) g b);
-        every = λ g v.
-            bit-of-or
-            all
-            (getD rows h 0)
-            g
-            (⊎-elim
-            (λ z.
-            inl (s .every g (record { place = v .place; low = v .low; at = ((v .at .0 .0, bit-clash left (v .place) z), v .at .1) })))
-            (λ o.
-            inr
-            (subst
-            (λ (y : ℕ). bit (getD rows y 0) g ≡ 1)
-            (left-taken (s .left-word) h e (v .place) o (v .at .0 .1))
-            (v .at .1)))
-            (bit-two left (v .place)));
-      }
-
-  pub join-end : {all left : ℕ} → Joining rows set all left → left ≡ 0 → (among : ℕ) → among < 2 ^ 64
-      → SetOf (bitAnd all among) (λ g. Joined rows set g × (bit among g ≡ 1))
-  join-end {all} s z among w =
-      set-as
-      (set-mask all (set-bits among w))
-      (λ g v. let a = s .only g (v .0) in (record { place = a .place; low = a .low; at = (a .at .0 .0, a .at .1) }, v .1))
-      (λ g v.
-      let a = v .0 in (
-        s .every
-            g
-            (record {
-              place = a .place;
-              low = a .low;
-              at = ((a .at .0, λ b. bit-none (a .place) (ap (λ (n : ℕ). bit n (a .place)) (sym z) ∙ b)), a .at .1);
-            }),
-        v .1,
-      ))
+-- Where h is picked, its row is joined; where it is not, nothing is.
+pub join-step : (rows : List ℕ) (groups : ℕ) {over o q : ℕ} (passed : Bool) (h : ℕ) → h < 64 → SetOf over (Joined rows groups)
+    → SetOf o (λ x. (passed ≡ true) × (bit ((1 * 2 ^ h) % 2 ^ 64) x ≡ 1))
+    → SetOf q (λ g. (passed ≡ true) × (bit (getD rows h 0) g ≡ 1))
+    → SetOf (bitOr over q) (Joined rows (bitOr groups o))
+join-step rows groups {o = o} passed h low s k r =
+    let one = set-one h low in
+    set-as
+    (set-or s r)
+    (λ g w.
+    ⊎-elim
+    (λ a. some-map (λ y v. (bit-of-or groups o y (inl (v .0)), v .1)) a)
+    (λ a. record { place = h; low = low; at = (bit-of-or groups o h (inr (k .all h (a .0, one .all h refl))), a .1) })
+    w)
+    (λ g w.
+    ⊎-elim
+    (λ b. inl (record { place = w .place; low = w .low; at = (b, w .at .1) }))
+    (λ b.
+    let v = k .only (w .place) b in
+    inr (v .0, subst (λ (y : ℕ). bit (getD rows y 0) g ≡ 1) (one .only (w .place) (v .1)) (w .at .1)))
+    (or-bit groups o (w .place) (w .at .0)))
 
 -- ---- What is done, and what is left to do
 
@@ -190,10 +139,6 @@ undone-again a d =
   where
     left : SetOf (bitAnd a (2 ^ 64 - 1 - d)) (λ x. (bit a x ≡ 1) × (bit (2 ^ 64 - 1 - d) x ≡ 1))
     left = set-mask a (set-bits (2 ^ 64 - 1 - d) (ones-sub-lt 64 d))
-
--- Less is left of what is left.
-pub undone-within : {d w r : ℕ} {P : ℕ → Type 0} → Undone d w → SetOf r P → ((x : ℕ) → P x → bit w x ≡ 1) → Undone d r
-undone-within u s f = record { todo-word = s .word; apart = λ x e. u .apart x (f x (s .only x e)) }
 
 -- With all that is left done, more is done.
 pub less-all : (done left : ℕ) → Undone done left → (left ≡ 0 → ⊥) → 2 ^ 64 - bitOr done left < 2 ^ 64 - done

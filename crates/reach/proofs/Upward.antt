@@ -6,7 +6,6 @@ use mathlib.Core.Logic.{_⊎_, inl, inr, ⊎-elim}
 use Prim.Native.Nat.{ℕ, _-_, _*_, _%_, _^_, _<_}
 use native.Mathlib.Omega.{arith}
 use lib.Bits.{bitAnd, bitOr}
-use lib.Dec.{lit<}
 use lib.ListN.{getD}
 use borrow.Author.Tests.{eqb-true, eq-eqb}
 use Rattle.reach.specs.declared.Policy.{Policy}
@@ -20,7 +19,7 @@ use Rattle.reach.proofs.Reaching.{group-in-use, under-trans, under-uppe
 use Rattle.reach.proofs.Frames.{under-same}
 use Rattle.reach.proofs.Chains.{in-use-below}
 use Rattle.reach.proofs.Sorts.{decides-sort}
-use Rattle.reach.proofs.Gathering.{Undone, undone-again, undone-within}
+use Rattle.reach.proofs.Gathering.{Undone, undone-again}
 
 -- ---- Reach is read of the sorts and memberships alone
 
@@ -105,25 +104,22 @@ module _ {s m : List ℕ} (x : ℕ) where
         groups-met = λ g b j. b;
       }
 
-  pub climb-step : {found met last groups next : ℕ} → Climbing s m x found met last
+  -- A turn finds the groups among those met last, and meets what their rows have and was not met before.
+  pub climb-step : {found met last groups over : ℕ} → Climbing s m x found met last
       → SetOf groups (λ g. (bit last g ≡ 1) × (getD s g 0 ≡ 1))
-      → SetOf next (λ g. Joined m groups g × (bit (2 ^ 64 - 1 - bitOr met last) g ≡ 1))
-      → Climbing s m x (bitOr found groups) (bitOr met last) next
-  climb-step {found} {met} {last} {groups} {next} c w n =
+      → SetOf over (Joined m groups)
+      → Climbing s m x (bitOr found groups) (bitOr met last) (bitAnd over (2 ^ 64 - 1 - bitOr met last))
+  climb-step {found} {met} {last} {groups} {over} c w n =
       let f = set-or (set-bits found (c .found-word)) (set-bits groups (w .word)) in
       let k = set-or (set-bits met (c .met-word)) (set-bits last (c .undone .todo-word)) in
-      let rest = set-not (set-bits (bitOr met last) (k .word)) in
+      let next = set-mask over (set-not (set-bits (bitOr met last) (k .word))) in
       record {
         found-word = f .word;
         met-word = k .word;
-        undone =
-            undone-within
-            (undone-again (2 ^ 64 - 1) (bitOr met last))
-            n
-            (λ g v. set-mask (2 ^ 64 - 1) rest .all g (all-ones g (rest .only g (v .1) .0), rest .only g (v .1)));
+        undone = undone-again over (bitOr met last);
         only = λ g b. ⊎-elim (λ a. c .only g a) (λ a. new g a) (f .only g b);
         above = λ g b j.
-            let a = n .only g b .0 in
+            let a = n .only g (next .only g b .0) in
             let u = new (a .place) (a .at .0) in
             under-up u (direct-of-row (reachOf s m) (a .place) g (under-upper u) j (a .at .1));
         start = f .all x (inl (c .start));
@@ -138,16 +134,9 @@ module _ {s m : List ℕ} (x : ℕ) where
             ⊎-elim
             (λ z.
             inr
-            (n .all h (
-              record {
-                place = y;
-                low = in-use-below (reachOf s m) y (d .object);
-                at = (a, row-of-direct (reachOf s m) y h d);
-              },
-              rest .all h (
-                in-use-below (reachOf s m) h (group-in-use (view (reachOf s m)) h (d .group)),
-                bit-clash (bitOr met last) h z,
-              ),
+            (next .all h (
+              n .all h (record { place = y; low = in-use-below (reachOf s m) y (d .object); at = (a, row-of-direct (reachOf s m) y h d) }),
+              (in-use-below (reachOf s m) h (group-in-use (view (reachOf s m)) h (d .group)), bit-clash (bitOr met last) h z),
             )))
             (λ z. inl (met-group h z (d .group)))
             (bit-two (bitOr met last) h))
@@ -166,9 +155,6 @@ module _ {s m : List ℕ} (x : ℕ) where
           let f = set-or (set-bits found (c .found-word)) (set-bits groups (w .word)) in
           let k = set-or (set-bits met (c .met-word)) (set-bits last (c .undone .todo-word)) in
           f .all g (⊎-elim (λ a. inl (c .groups-met g a j)) (λ a. inr (w .all g (a, byte-of-group s m g j))) (k .only g b))
-
-      all-ones : (g : ℕ) → g < 64 → bit (2 ^ 64 - 1) g ≡ 1
-      all-ones g l = set-not (set-bits 0 (lit< tt)) .all g (l, bit-none g)
 
   -- Where nothing was met last, all is found.
   pub climb-end : {found met last : ℕ} → Climbing s m x found met last → last ≡ 0 → SetOf found (λ g. UnderBy s m x g)

@@ -10,33 +10,28 @@ use crate::objects::sort_in;
 use crate::sets::has;
 use crate::sets::only_if;
 
-// The groups among the numbers of a set.
-fn groups_among(sorts: &[u8; 64], set: u64) -> u64
-    ensures { λ r. ⌜ SetOf r (λ g. (bit set g ≡ 1) × (getD (now (sorts .entry)) g 0 ≡ 1)) ⌝ }
+// The groups of a level, and what these are directly stored in, as sets.
+struct Level {
+    groups: u64,
+    over: u64,
+}
+
+// The groups among the numbers of a set, and what their rows have, together: in one pass, since each level waits for the one before it.
+fn level_of<'a>(sorts: &'a [u8; 64], memberships: &'a [u64; 64], set: u64) -> Level
+    ensures { λ r. ⌜ SetOf (r .groups) (λ g. (bit set g ≡ 1) × (getD (now (sorts .entry)) g 0 ≡ 1)) ×
+        SetOf (r .over) (Joined (now (memberships .entry)) (r .groups)) ⌝ }
 {
     let mut groups: u64 = 0;
+    let mut over: u64 = 0;
     let mut left = set;
     while left != 0 {
         let h = u64::trailing_zeros(left) as usize;
         let one = 1u64 << h;
         groups |= only_if(sorts[h] == 1, one);
+        over |= only_if(sorts[h] == 1, memberships[h]);
         left &= !one;
     }
-    groups
-}
-
-// What of `among` the rows of the numbers in the set have, together.
-fn joined_rows(rows: &[u64; 64], set: u64, among: u64) -> u64
-    ensures { λ r. ⌜ SetOf r (λ g. Joined (now (rows .entry)) set g × (bit among g ≡ 1)) ⌝ }
-{
-    let mut all: u64 = 0;
-    let mut left = set;
-    while left != 0 {
-        let h = u64::trailing_zeros(left) as usize;
-        all |= rows[h];
-        left &= !(1u64 << h);
-    }
-    all & among
+    Level { groups, over }
 }
 
 // All that x is under, itself too. The climb goes by levels: each turn takes those that were met last, keeps the groups among them, and
@@ -55,10 +50,10 @@ pub fn climb<'a>(sorts: &'a [u8; 64], memberships: &'a [u64; 64], x: u8) -> u64
     let mut met = found;
     let mut last = memberships[n] & !met;
     while last != 0 {
-        let groups = groups_among(sorts, last);
-        found |= groups;
+        let l = level_of(sorts, memberships, last);
+        found |= l.groups;
         met |= last;
-        last = joined_rows(memberships, groups, !met);
+        last = l.over & !met;
     }
     found
 }

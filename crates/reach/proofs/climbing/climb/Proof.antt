@@ -29,10 +29,10 @@ loop-holds c =
     climb-start _ (in-use-by _ _ _ (λ e. t .if1 .left (t .before .sort-in .ensures ∙ e))) (search needs)
 
 loop-less : tie.Need-loop-less Inv-loop μ-loop
-loop-less c = let t = c .before .before in less-all _ _ (t .before .loop .inv .undone) (t .loop-test .taken)
+loop-less c = let t = c .before .before .before in less-all _ _ (t .before .loop .inv .undone) (t .loop-test .taken)
 
 loop-again : tie.Need-loop-again Inv-loop μ-loop
-loop-again c = climb-step _ (c .before .before .before .loop .inv) (c .before .groups-among .ensures) (c .joined-rows .ensures)
+loop-again c = let t = c .before .before in climb-step _ (t .before .before .loop .inv) (t .level-of .ensures .0) (t .level-of .ensures .1)
 
 returns-3 : tie.Need-returns-3 Inv-loop μ-loop
 returns-3 c = climb-end _ (c .before .loop .inv) (c .loop-test .left)
@@ -50,7 +50,6 @@ climb-spec =
     (λ c. search needs)
     (λ c. search needs)
     loop-holds
-    (λ c κs. search needs)
     (λ c κs. search needs)
     loop-less
     loop-again
