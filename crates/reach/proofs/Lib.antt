@@ -21,3 +21,4 @@ pub mod Upward
 pub mod Settling
 pub mod Unions
 pub mod Meeting
+pub mod Holding

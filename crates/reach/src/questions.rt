@@ -16,10 +16,12 @@ use crate::appointments::owned_from;
 use crate::appointments::partners_of;
 use crate::appointments::posts_of;
 use crate::climbing::climb;
+use crate::objects::row;
 use crate::objects::sort_in;
 use crate::rounds::descend;
 use crate::ruling::covering;
 use crate::ruling::granted_over;
+use crate::sets::has;
 
 impl Policy {
     // What u is appointed over, as an owner and as a manager: nothing, if he is no user.
@@ -81,23 +83,44 @@ impl Policy {
     }
 
     // What u holds over x and over y, what he administers of the two, and whether x is directly in y: what is asked of a request that
-    // names two objects, asked at once.
+    // names two objects, asked at once. Who is no user holds nothing.
     pub fn held(self, u: u8, x: u8, y: u8) -> Held
         ensures { λ r. ⌜ r ≡ heldOf self u x y ⌝ }
     {
+        let sorts = self.sorts;
+        let memberships = self.memberships;
+        let appointments = self.appointments;
+        let used = 0 < sort_in(&sorts, x);
+        let group = sort_in(&sorts, y) == 1;
+        let direct = used & group & has(row(&memberships, x), y);
+        if sort_in(&sorts, u) != 2 {
+            let nothing = Over {
+                owned: false,
+                managed: false,
+            };
+            return Held {
+                first: nothing,
+                second: nothing,
+                pair: false,
+                direct,
+            };
+        }
+        let over_x = climb(&sorts, &memberships, x);
+        let over_y = climb(&sorts, &memberships, y);
+        let posts = posts_of(appointments, u);
         let first = Over {
-            owned: self.owns(u, x),
-            managed: self.manages(u, x),
+            owned: posts.owner & over_x != 0,
+            managed: posts.manager & over_x != 0,
         };
         let second = Over {
-            owned: self.owns(u, y),
-            managed: self.manages(u, y),
+            owned: posts.owner & over_y != 0,
+            managed: posts.manager & over_y != 0,
         };
         Held {
             first,
             second,
-            pair: self.administers(u, x, y),
-            direct: self.direct(x, y),
+            pair: covers_pair(appointments, u, over_x, over_y),
+            direct,
         }
     }
 
