@@ -6,16 +6,15 @@ use lib.Bits.{bitAnd}
 use lib.Dec.{eqb, ltb}
 use lib.ListN.{getD}
 use Rattle.reach.specs.declared.Policy.{Policy}
-use Rattle.reach.specs.declared.Posts.{Posts}
 use Rattle.reach.specs.Words.{has, SetOf}
 use Rattle.reach.specs.Tests.{Some, Decides}
 use Rattle.reach.specs.Tables.{sortIn, sort, stored, noAppointment, view}
 use Rattle.reach.specs.Reach.{User, inUse, direct}
-use Rattle.reach.specs.Privileges.{owns, manages, administers}
-use Rattle.reach.specs.Asking.{UnderBy, PostsIn, CoversPair, heldOf}
+use Rattle.reach.specs.Privileges.{owner, manager, owns, manages, administers}
+use Rattle.reach.specs.Asking.{UnderBy, AppointedOver, CoversPair, heldOf}
 use Rattle.reach.proofs.Testing.{decides-same, fails}
 use Rattle.reach.proofs.Deciding.{holds-decides, administers-decides}
-use Rattle.reach.proofs.Meeting.{climbed, posts-of-user, holds-meets, pair-covered}
+use Rattle.reach.proofs.Meeting.{climbed, over-held, holds-meets, pair-covered}
 
 -- Whether x is directly in y, read of the two sorts and of the row of x.
 pub direct-by : (p : Policy) (x y a b w : ℕ) {t : Bool} → a ≡ sortIn (p .sorts) x → b ≡ sortIn (p .sorts) y
@@ -61,24 +60,26 @@ module _ (p : Policy) (u x y : ℕ) where
       e
 
   -- What a user holds is what he is appointed over, met with what each object is under, and the pair that one appointment covers.
-  pub held-some : {r : Posts} {a b : ℕ} {c d : Bool} → User (view p) u → PostsIn (p .appointments) u r
+  pub held-some : {o m a b : ℕ} {c d : Bool} → User (view p) u
+      → SetOf o (AppointedOver (p .appointments) owner u) → SetOf m (AppointedOver (p .appointments) manager u)
       → SetOf a (λ g. UnderBy (p .sorts) (p .memberships) x g) → SetOf b (λ g. UnderBy (p .sorts) (p .memberships) y g)
       → Decides c (Some 32 (λ i. CoversPair (getD (p .appointments) i noAppointment) u a b)) → d ≡ direct p x y
       → record {
-        first = record { owned = not (eqb (bitAnd (r .owner) a) 0); managed = not (eqb (bitAnd (r .manager) a) 0) };
-        second = record { owned = not (eqb (bitAnd (r .owner) b) 0); managed = not (eqb (bitAnd (r .manager) b) 0) };
+        first = record { owned = not (eqb (bitAnd o a) 0); managed = not (eqb (bitAnd m a) 0) };
+        second = record { owned = not (eqb (bitAnd o b) 0); managed = not (eqb (bitAnd m b) 0) };
         pair = c;
         direct = d;
       }
       ≡ heldOf p u x y
-  held-some user posts s t covered e =
-      let w = posts-of-user p user posts in
+  held-some user h k s t covered e =
+      let ours = over-held p user h in
+      let theirs = over-held p user k in
       let over = climbed p s in
       let other = climbed p t in
       held-is
-      (decides-same _ _ (holds-meets p (w .owner) over) (holds-decides _ _ _ _))
-      (decides-same _ _ (holds-meets p (w .manager) over) (holds-decides _ _ _ _))
-      (decides-same _ _ (holds-meets p (w .owner) other) (holds-decides _ _ _ _))
-      (decides-same _ _ (holds-meets p (w .manager) other) (holds-decides _ _ _ _))
+      (decides-same _ _ (holds-meets p ours over) (holds-decides _ _ _ _))
+      (decides-same _ _ (holds-meets p theirs over) (holds-decides _ _ _ _))
+      (decides-same _ _ (holds-meets p ours other) (holds-decides _ _ _ _))
+      (decides-same _ _ (holds-meets p theirs other) (holds-decides _ _ _ _))
       (pair-covered p user over _ other covered)
       e

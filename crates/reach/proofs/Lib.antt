@@ -20,5 +20,6 @@ pub mod Gathering
 pub mod Upward
 pub mod Settling
 pub mod Unions
+pub mod Posting
 pub mod Meeting
 pub mod Holding

@@ -86,7 +86,8 @@ module _ (p : Policy) where
 
   -- ---- Owning and managing
 
-  over-held : {kind u s : ℕ} → User (view p) u → SetOf s (AppointedOver (p .appointments) kind u) → SetOf s (HeldOver (view p) kind u)
+  -- What a user is appointed over by the table is his.
+  pub over-held : {kind u s : ℕ} → User (view p) u → SetOf s (AppointedOver (p .appointments) kind u) → SetOf s (HeldOver (view p) kind u)
   unfolding appointment
   over-held user h =
       set-as h (λ a w. record { user = user; low = w .low; by = w .by }) (λ a w. record { low = w .low; by = w .by })

@@ -4,7 +4,8 @@ ghost use lib.ListN.{getD};
 ghost use Rattle.reach.specs.Words.{SetOf};
 ghost use Rattle.reach.specs.Tests.{Some, Decides};
 ghost use Rattle.reach.specs.Tables.{noAppointment};
-ghost use Rattle.reach.specs.Asking.{HasA, PostsIn, CoversPair, HasB, OwnersA};
+ghost use Rattle.reach.specs.Privileges.{owner, manager};
+ghost use Rattle.reach.specs.Asking.{HasA, AppointedOver, PostsIn, CoversPair, HasB, OwnersA};
 use crate::Appointment;
 use crate::Posts;
 use crate::sets::has;
@@ -63,6 +64,35 @@ pub fn covers_pair(appointments: [Appointment; 32], u: u8, first: u64, second: u
         i += 1;
     }
     false
+}
+
+// What u's appointments give him: what he is appointed over, as an owner and as a manager, and whether an administrator's one covers a pair.
+pub struct Given {
+    pub owner: u64,
+    pub manager: u64,
+    pub pair: bool,
+}
+
+// The posts of u, and whether one of his administrator's appointments covers the pair of sets: the table is gone through once.
+pub fn given_to(appointments: [Appointment; 32], u: u8, first: u64, second: u64) -> Given
+    ensures { λ r. ⌜ SetOf (r .owner) (AppointedOver appointments owner u) × SetOf (r .manager) (AppointedOver appointments manager u) ×
+        Decides (r .pair) (Some 32 (λ i. CoversPair (getD appointments i noAppointment) u first second)) ⌝ }
+{
+    let mut owner: u64 = 0;
+    let mut manager: u64 = 0;
+    let mut pair = false;
+    let mut i: usize = 0;
+    while i < 32 {
+        owner |= a_of(appointments[i], 1, u);
+        manager |= a_of(appointments[i], 2, u);
+        pair |= covers(appointments[i], u, first, second);
+        i += 1;
+    }
+    Given {
+        owner,
+        manager,
+        pair,
+    }
 }
 
 // The B of this appointment, if it is an administrator's, u holds it, and its A is in the set.

@@ -12,6 +12,7 @@ use crate::Place;
 use crate::Policy;
 use crate::Posts;
 use crate::appointments::covers_pair;
+use crate::appointments::given_to;
 use crate::appointments::owned_from;
 use crate::appointments::partners_of;
 use crate::appointments::posts_of;
@@ -107,19 +108,19 @@ impl Policy {
         }
         let over_x = climb(&sorts, &memberships, x);
         let over_y = climb(&sorts, &memberships, y);
-        let posts = posts_of(appointments, u);
+        let given = given_to(appointments, u, over_x, over_y);
         let first = Over {
-            owned: posts.owner & over_x != 0,
-            managed: posts.manager & over_x != 0,
+            owned: given.owner & over_x != 0,
+            managed: given.manager & over_x != 0,
         };
         let second = Over {
-            owned: posts.owner & over_y != 0,
-            managed: posts.manager & over_y != 0,
+            owned: given.owner & over_y != 0,
+            managed: given.manager & over_y != 0,
         };
         Held {
             first,
             second,
-            pair: covers_pair(appointments, u, over_x, over_y),
+            pair: given.pair,
             direct,
         }
     }

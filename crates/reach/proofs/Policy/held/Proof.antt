@@ -16,18 +16,19 @@ returns c =
 
 returns-2 : tie.Need-returns-2
 returns-2 c =
-    let posts = c .before .before .before .before .before in
-    let b = posts .before in
+    let w = c .before .before .before .before in
+    let b = w .before in
     let a = b .before .before .before in
     let t = a .before .before .before in
     let h = t .before .before .before in
     let y = h .before .before .before in
     held-some _ _ _ _
     (user-of-sort _ _ (sym (t .before .sort-in3 .ensures) ∙ t .if1 .left))
-    (posts .posts-of .ensures)
+    (w .given-to .ensures .0)
+    (w .given-to .ensures .1)
     (a .climb .ensures)
     (b .climb2 .ensures)
-    (c .covers-pair .ensures)
+    (w .given-to .ensures .2)
     (direct-by _ _ _ _ _ _ (y .before .before .sort-in .ensures) (y .sort-in2 .ensures) (h .before .row .ensures) (h .has .ensures))
 
 pub held-spec : {M : Type 1} → statement M
@@ -41,7 +42,6 @@ held-spec =
     (λ c κs. search needs)
     (λ c κs. search needs)
     returns
-    (λ c κs. search needs)
     (λ c κs. search needs)
     (λ c κs. search needs)
     (λ c κs. search needs)

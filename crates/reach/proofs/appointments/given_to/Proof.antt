@@ -1,0 +1,78 @@
+-- Both sets are unions over the places of the table, and the test of the pair is taken on from place to place.
+use native.Mathlib.Omega.{arith}
+use mathlib.Core.Path.{_≡_}
+use Prim.Native.Nat.{_-_, _≤_}
+use lib.ListN.{getD}
+use Rattle.reach.specs.Tests.{Some, Decides}
+use Rattle.reach.specs.Tables.{noAppointment}
+use Rattle.reach.specs.Privileges.{owner, manager}
+use Rattle.reach.specs.Asking.{CoversPair}
+use Rattle.reach.proofs.Testing.{decides-some-start, decides-some-next, decides-some-end}
+use Rattle.reach.proofs.Unions.{Union, union-none, union-add, union-end}
+use Rattle.reach.proofs.Posting.{Posted, appointed-over}
+use borrow.Author.Needs.{needs}
+use Rattle.reach.proofs.appointments.given_to.Statement.{statement}
+use Rattle.reach.proofs.appointments.given_to.Tie as tie
+
+abbrev Inv-loop : tie.InvT-loop
+Inv-loop u first second appointments owner₀ manager₀ pair₀ i₀ ours theirs pair i =
+    (i ≤ 32)
+    × Union (Posted appointments owner u) i ours
+    × Union (Posted appointments manager u) i theirs
+    × Decides pair (Some i (λ j. CoversPair (getD appointments j noAppointment) u first second))
+
+abbrev μ-loop : tie.MeasureT-loop
+μ-loop u first second appointments owner₀ manager₀ pair₀ i₀ ours theirs pair i = 32 - i
+
+loop-holds : tie.Need-loop-holds Inv-loop μ-loop
+loop-holds c = (search needs, union-none _, union-none _, decides-some-start)
+
+array-copy-out-a-of : tie.Need-array-copy-out-a-of Inv-loop μ-loop
+array-copy-out-a-of c = c .loop-test .taken
+
+array-copy-out-a-of-2 : tie.Need-array-copy-out-a-of-2 Inv-loop μ-loop
+array-copy-out-a-of-2 c = c .before .before .loop-test .taken
+
+array-copy-out-covers : tie.Need-array-copy-out-covers Inv-loop μ-loop
+array-copy-out-covers c = c .before .before .before .before .loop-test .taken
+
+loop-again : tie.Need-loop-again Inv-loop μ-loop
+loop-again c =
+    let second = c .before .before in
+    let first = second .before .before in
+    let l = first .before .before .before .loop in (
+      search needs,
+      union-add _ (l .inv .1) (first .a-of .ensures),
+      union-add _ (l .inv .2) (second .a-of2 .ensures),
+      decides-some-next _ _ (l .inv .3) (c .covers .ensures),
+    )
+
+returns : tie.Need-returns Inv-loop μ-loop
+returns c =
+    let l = c .before .loop in
+    let e : l .i ≡ 32 = omega (arith, c .loop-test .left, l .inv .0) in (
+      appointed-over (union-end _ 32 (l .inv .1) e),
+      appointed-over (union-end _ 32 (l .inv .2) e),
+      decides-some-end 32 (l .inv .3) e,
+    )
+
+pub given-to-spec : {M : Type 1} → statement M
+given-to-spec =
+    tie.close
+    (tie.spec
+    Inv-loop
+    μ-loop
+    loop-holds
+    (λ c. search needs)
+    array-copy-out-a-of
+    (λ c κs. search needs)
+    (λ c. search needs)
+    array-copy-out-a-of-2
+    (λ c κs. search needs)
+    (λ c. search needs)
+    array-copy-out-covers
+    (λ c κs. search needs)
+    (λ c. search needs)
+    (λ c. search needs)
+    loop-again
+    returns)
