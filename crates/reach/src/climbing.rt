@@ -63,7 +63,9 @@ impl Policy {
     pub fn above(self, x: u8) -> u64
         ensures { λ r. ⌜ SetOf r (λ g. Under (view self) x g) ⌝ }
     {
-        climb(&self.sorts, &self.memberships, x)
+        let sorts = self.sorts;
+        let memberships = self.memberships;
+        climb(&sorts, &memberships, x)
     }
 
     // Whether x is under g.

@@ -23,19 +23,21 @@ use crate::rounds::descend;
 use crate::ruling::covering;
 use crate::ruling::granted_over;
 use crate::sets::has;
+use crate::surveying::masks_of;
 
 impl Policy {
     // What u is appointed over, as an owner and as a manager: nothing, if he is no user.
     pub fn posts(self, u: u8) -> Posts
         ensures { λ r. ⌜ PostsOf (view self) u r ⌝ }
     {
-        if sort_in(&self.sorts, u) != 2 {
+        let sorts = self.sorts;
+        let appointments = self.appointments;
+        if sort_in(&sorts, u) != 2 {
             return Posts {
                 owner: 0,
                 manager: 0,
             };
         }
-        let appointments = self.appointments;
         posts_of(appointments, u)
     }
 
@@ -43,29 +45,43 @@ impl Policy {
     pub fn owned(self, u: u8) -> u64
         ensures { λ r. ⌜ SetOf r (λ x. Owns (view self) u x) ⌝ }
     {
-        let m = self.masks();
-        let posts = self.posts(u);
-        descend(&self.memberships, m, posts.owner)
+        let sorts = self.sorts;
+        let memberships = self.memberships;
+        let appointments = self.appointments;
+        if sort_in(&sorts, u) != 2 {
+            return 0;
+        }
+        let m = masks_of(sorts);
+        let posts = posts_of(appointments, u);
+        descend(&memberships, m, posts.owner)
     }
 
     // All that u manages.
     pub fn managed(self, u: u8) -> u64
         ensures { λ r. ⌜ SetOf r (λ x. Manages (view self) u x) ⌝ }
     {
-        let m = self.masks();
-        let posts = self.posts(u);
-        descend(&self.memberships, m, posts.manager)
+        let sorts = self.sorts;
+        let memberships = self.memberships;
+        let appointments = self.appointments;
+        if sort_in(&sorts, u) != 2 {
+            return 0;
+        }
+        let m = masks_of(sorts);
+        let posts = posts_of(appointments, u);
+        descend(&memberships, m, posts.manager)
     }
 
     // Whether u owns x.
     pub fn owns(self, u: u8, x: u8) -> bool
         ensures { λ r. ⌜ r ≡ owns self u x ⌝ }
     {
-        if sort_in(&self.sorts, u) != 2 {
+        let sorts = self.sorts;
+        let memberships = self.memberships;
+        let appointments = self.appointments;
+        if sort_in(&sorts, u) != 2 {
             return false;
         }
-        let over = climb(&self.sorts, &self.memberships, x);
-        let appointments = self.appointments;
+        let over = climb(&sorts, &memberships, x);
         let posts = posts_of(appointments, u);
         posts.owner & over != 0
     }
@@ -74,11 +90,13 @@ impl Policy {
     pub fn manages(self, u: u8, x: u8) -> bool
         ensures { λ r. ⌜ r ≡ manages self u x ⌝ }
     {
-        if sort_in(&self.sorts, u) != 2 {
+        let sorts = self.sorts;
+        let memberships = self.memberships;
+        let appointments = self.appointments;
+        if sort_in(&sorts, u) != 2 {
             return false;
         }
-        let over = climb(&self.sorts, &self.memberships, x);
-        let appointments = self.appointments;
+        let over = climb(&sorts, &memberships, x);
         let posts = posts_of(appointments, u);
         posts.manager & over != 0
     }
@@ -129,26 +147,30 @@ impl Policy {
     pub fn administered(self, u: u8, a: u8) -> u64
         ensures { λ r. ⌜ SetOf r (λ b. Administers (view self) u a b) ⌝ }
     {
-        if sort_in(&self.sorts, u) != 2 {
+        let sorts = self.sorts;
+        let memberships = self.memberships;
+        let appointments = self.appointments;
+        if sort_in(&sorts, u) != 2 {
             return 0;
         }
-        let m = self.masks();
-        let over = climb(&self.sorts, &self.memberships, a);
-        let appointments = self.appointments;
+        let m = masks_of(sorts);
+        let over = climb(&sorts, &memberships, a);
         let partners = partners_of(appointments, u, over);
-        descend(&self.memberships, m, partners)
+        descend(&memberships, m, partners)
     }
 
     // Whether u administers the pair (a, b).
     pub fn administers(self, u: u8, a: u8, b: u8) -> bool
         ensures { λ r. ⌜ r ≡ administers self u a b ⌝ }
     {
-        if sort_in(&self.sorts, u) != 2 {
+        let sorts = self.sorts;
+        let memberships = self.memberships;
+        let appointments = self.appointments;
+        if sort_in(&sorts, u) != 2 {
             return false;
         }
-        let first = climb(&self.sorts, &self.memberships, a);
-        let second = climb(&self.sorts, &self.memberships, b);
-        let appointments = self.appointments;
+        let first = climb(&sorts, &memberships, a);
+        let second = climb(&sorts, &memberships, b);
         covers_pair(appointments, u, first, second)
     }
 
@@ -156,31 +178,35 @@ impl Policy {
     pub fn permitted(self, u: u8, k: u8) -> u64
         ensures { λ r. ⌜ SetOf r (λ x. Permitted (view self) u k x) ⌝ }
     {
-        if sort_in(&self.sorts, u) != 2 {
+        let sorts = self.sorts;
+        let memberships = self.memberships;
+        let rules = self.rules;
+        if sort_in(&sorts, u) != 2 {
             return 0;
         }
         if 8 <= k {
             return 0;
         }
-        let m = self.masks();
-        let over = climb(&self.sorts, &self.memberships, u);
-        let rules = self.rules;
+        let m = masks_of(sorts);
+        let over = climb(&sorts, &memberships, u);
         let granted = granted_over(rules, k, over);
-        descend(&self.memberships, m, granted) & m.targets
+        descend(&memberships, m, granted) & m.targets
     }
 
     // The lowest place of a rule by which u is permitted operation k on x, or none.
     pub fn permitting(self, u: u8, k: u8, x: u8) -> Place
         ensures { λ r. ⌜ r ≡ permitting self u k x ⌝ }
     {
-        let user = sort_in(&self.sorts, u);
-        let target = sort_in(&self.sorts, x);
+        let sorts = self.sorts;
+        let memberships = self.memberships;
+        let rules = self.rules;
+        let user = sort_in(&sorts, u);
+        let target = sort_in(&sorts, x);
         if !((user == 2) & (target == 3) & (k < 8)) {
             return Place::Nothing;
         }
-        let users = climb(&self.sorts, &self.memberships, u);
-        let targets = climb(&self.sorts, &self.memberships, x);
-        let rules = self.rules;
+        let users = climb(&sorts, &memberships, u);
+        let targets = climb(&sorts, &memberships, x);
         covering(rules, k, users, targets)
     }
 
@@ -188,10 +214,12 @@ impl Policy {
     pub fn orphaned(self) -> bool
         ensures { λ r. ⌜ r ≡ orphaned self ⌝ }
     {
-        let m = self.masks();
+        let sorts = self.sorts;
+        let memberships = self.memberships;
         let appointments = self.appointments;
+        let m = masks_of(sorts);
         let from = owned_from(appointments, m.users);
-        let owned = descend(&self.memberships, m, from);
+        let owned = descend(&memberships, m, from);
         m.objects & !owned != 0
     }
 }

@@ -9,6 +9,7 @@ use crate::Masks;
 use crate::Policy;
 use crate::sets::just;
 use crate::sets::only_if;
+use crate::surveying::masks_of;
 
 // All that is under something of the set. A round goes through the objects that are not found yet, and finds those that are directly in a
 // group found; the last one finds nothing.
@@ -35,7 +36,9 @@ impl Policy {
     pub fn under_set(self, g: u8) -> u64
         ensures { λ r. ⌜ SetOf r (λ x. Under (view self) x g) ⌝ }
     {
-        let m = self.masks();
-        descend(&self.memberships, m, just(g))
+        let sorts = self.sorts;
+        let memberships = self.memberships;
+        let m = masks_of(sorts);
+        descend(&memberships, m, just(g))
     }
 }

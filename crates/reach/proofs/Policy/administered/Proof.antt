@@ -11,15 +11,15 @@ returns c = set-none (λ b h. c .if1 .taken (c .before .sort-in .ensures ∙ sor
 
 returns-2 : tie.Need-returns-2
 returns-2 c =
-    let a = c .before .before .before in
-    let b = a .before .before in
-    let m = b .before .before .before .before in
+    let a = c .before .before in
+    let b = a .before in
+    let m = b .before .before .before in
     let t = m .before in
     partners-below _
     (user-of-sort _ _ (sym (t .before .sort-in .ensures) ∙ t .if1 .left))
     (climbed _ (b .climb .ensures))
     (a .partners-of .ensures)
-    (c .descend .ensures _ (record { rows = refl; masks = m .masks .ensures }))
+    (c .descend .ensures _ (record { rows = refl; masks = m .masks-of .ensures _ refl }))
 
 pub administered-spec : {M : Type 1} → statement M
 administered-spec = tie.close (tie.spec (λ c κs. search needs) returns (λ c κs. search needs) (λ c κs. search needs) (λ c κs. search needs) (λ c κs. search needs) returns-2)

@@ -13,9 +13,9 @@ returns c =
 
 returns-2 : tie.Need-returns-2
 returns-2 c =
-    let b = c .before .before in
-    let a = b .before .before .before .before in
-    let t = a .before .before .before .before in
+    let b = c .before in
+    let a = b .before .before .before in
+    let t = a .before .before .before in
     pair-covered _
     (user-of-sort _ _ (sym (t .before .sort-in .ensures) ∙ t .if1 .left))
     (climbed _ (a .climb .ensures))

@@ -14,8 +14,8 @@ returns c =
 returns-2 : tie.Need-returns-2
 returns-2 c =
     let q = c .before in
-    let m = q .before .before in
-    let t = m .before .before .before .before in
+    let m = q .before in
+    let t = m .before .before .before in
     let user = user-of-sort _ _ (sym (t .before .sort-in .ensures) ∙ t .if1 .left) in
     decides-same _ _
     (holds-meets _ (posts-of-user _ user (q .posts-of .ensures) .manager) (climbed _ (m .climb .ensures)))

@@ -9,8 +9,8 @@ use Rattle.reach.proofs.Policy.orphaned.Tie as tie
 returns : tie.Need-returns
 returns c =
     let d = c .before in
-    let f = d .before .before .before in
-    let m = f .before .before .masks .ensures in
+    let f = d .before .before in
+    let m = f .before .masks-of .ensures _ refl in
     orphan-decides _
     (m .objects)
     (owned-below _ (m .users) (f .owned-from .ensures) (d .descend .ensures _ (record { rows = refl; masks = m })))

@@ -16,16 +16,16 @@ returns-2 c = set-none (λ x h. omega (arith, h .number, c .if2 .taken))
 returns-3 : tie.Need-returns-3
 returns-3 c =
     let d = c .before in
-    let g = d .before .before .before in
-    let a = g .before .before in
-    let m = a .before .before .before .before in
+    let g = d .before .before in
+    let a = g .before in
+    let m = a .before .before .before in
     let t = m .before in
     granted-below _
     (climbed _ (a .climb .ensures))
     _
     (g .granted-over .ensures)
-    (d .descend .ensures _ (record { rows = refl; masks = m .masks .ensures }))
-    (m .masks .ensures .targets)
+    (d .descend .ensures _ (record { rows = refl; masks = m .masks-of .ensures _ refl }))
+    (m .masks-of .ensures _ refl .targets)
     (user-of-sort _ _ (sym (t .before .before .sort-in .ensures) ∙ t .before .if1 .left))
     (omega (arith, t .if2 .left))
 

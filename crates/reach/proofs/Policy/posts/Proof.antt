@@ -10,7 +10,7 @@ returns c = posts-of-none _ (λ u. c .if1 .taken (c .before .sort-in .ensures �
 
 returns-2 : tie.Need-returns-2
 returns-2 c =
-    let t = c .before .before in
+    let t = c .before in
     posts-of-user _ (user-of-sort _ _ (sym (t .before .sort-in .ensures) ∙ t .if1 .left)) (c .posts-of .ensures)
 
 pub posts-spec : {M : Type 1} → statement M

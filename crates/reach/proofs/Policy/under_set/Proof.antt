@@ -9,7 +9,7 @@ returns : tie.Need-returns
 returns c =
     one-below _
     (c .before .just .ensures)
-    (c .descend .ensures _ (record { rows = refl; masks = c .before .before .before .before .masks .ensures }))
+    (c .descend .ensures _ (record { rows = refl; masks = c .before .before .before .masks-of .ensures _ refl }))
 
 pub under-set-spec : {M : Type 1} → statement M
 under-set-spec = tie.close (tie.spec (λ c κs. search needs) (λ c κs. search needs) (λ c κs. search needs) returns)
