@@ -96,25 +96,25 @@ pub join-start : (rows : List ℕ) → SetOf 0 (Joined rows 0)
 join-start rows = set-none (λ g w. bit-none (w .place) (w .at .0))
 
 -- Where h is picked, its row is joined; where it is not, nothing is.
-pub join-step : (rows : List ℕ) (groups : ℕ) {over o q : ℕ} (passed : Bool) (h : ℕ) → h < 64 → SetOf over (Joined rows groups)
+pub join-step : (rows : List ℕ) (groups : ℕ) {over o q row : ℕ} (passed : Bool) (h : ℕ) → h < 64 → SetOf over (Joined rows groups)
     → SetOf o (λ x. (passed ≡ true) × (bit ((1 * 2 ^ h) % 2 ^ 64) x ≡ 1))
-    → SetOf q (λ g. (passed ≡ true) × (bit (getD rows h 0) g ≡ 1))
+    → SetOf q (λ g. (passed ≡ true) × (bit row g ≡ 1)) → row ≡ getD rows h 0
     → SetOf (bitOr over q) (Joined rows (bitOr groups o))
-join-step rows groups {o = o} passed h low s k r =
+join-step rows groups {o = o} passed h low s k r e =
     let one = set-one h low in
     set-as
     (set-or s r)
     (λ g w.
     ⊎-elim
     (λ a. some-map (λ y v. (bit-of-or groups o y (inl (v .0)), v .1)) a)
-    (λ a. record { place = h; low = low; at = (bit-of-or groups o h (inr (k .all h (a .0, one .all h refl))), a .1) })
+    (λ a. record { place = h; low = low; at = (bit-of-or groups o h (inr (k .all h (a .0, one .all h refl))), ap (λ (n : ℕ). bit n g) (sym e) ∙ a .1) })
     w)
     (λ g w.
     ⊎-elim
     (λ b. inl (record { place = w .place; low = w .low; at = (b, w .at .1) }))
     (λ b.
     let v = k .only (w .place) b in
-    inr (v .0, subst (λ (y : ℕ). bit (getD rows y 0) g ≡ 1) (one .only (w .place) (v .1)) (w .at .1)))
+    inr (v .0, ap (λ (n : ℕ). bit n g) e ∙ subst (λ (y : ℕ). bit (getD rows y 0) g ≡ 1) (one .only (w .place) (v .1)) (w .at .1)))
     (or-bit groups o (w .place) (w .at .0)))
 
 -- ---- What is done, and what is left to do

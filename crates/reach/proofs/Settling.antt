@@ -20,7 +20,7 @@ use Rattle.reach.specs.Reach.{InUse, Group, Direct, Under, itself, up}
 use Rattle.reach.specs.Surveys.{Lent}
 use Rattle.reach.proofs.Bits.{bit-two, bit-clash, bit-none}
 use Rattle.reach.proofs.Testing.{some-map}
-use Rattle.reach.proofs.WordSets.{set-bits, set-or, set-mask, set-not, set-one}
+use Rattle.reach.proofs.WordSets.{set-bits, set-or, set-mask, set-not, set-one, set-equal}
 use Rattle.reach.proofs.Reaching.{group-in-use, under-upper}
 use Rattle.reach.proofs.Chains.{in-use-below}
 use Rattle.reach.proofs.Gathering.{left-low, left-rest, left-taken}
@@ -45,10 +45,10 @@ module _ {objects : ℕ} (word : objects < 2 ^ 64) where
         within = λ x b. absurd (bit-none x b);
       }
 
-  pub sweep-round : {done found left : ℕ} → Sweeping objects done found left
-      → Sweeping objects found found (bitAnd objects (2 ^ 64 - 1 - found))
-  sweep-round {found = found} s =
-      let rest = set-mask objects (set-not (set-bits found (s .found-word))) in
+  pub sweep-round : {done found left next : ℕ} → Sweeping objects done found left → next ≡ bitAnd objects (2 ^ 64 - 1 - found)
+      → Sweeping objects found found next
+  sweep-round {found = found} s e =
+      let rest = set-equal (set-mask objects (set-not (set-bits found (s .found-word)))) e in
       record { found-word = s .found-word; grown = le-refl found; left-word = rest .word; within = λ x b. rest .only x b .0 }
 
 pub sweep-step : {objects done found left o : ℕ} {P : ℕ → Type 0} → Sweeping objects done found left → (h : ℕ) → bit left h ≡ 1 → SetOf o P
@@ -90,10 +90,10 @@ module _ {p : Policy} {rows : List ℕ} {m : Masks} (k : Lent p rows m) {set : �
       }
 
   -- A round begins: what is found is done, and all else in use is left.
-  pub settle-round : {done found left : ℕ} → found < 2 ^ 64 → Settling p set done found left
-      → Settling p set found found (bitAnd (m .objects) (2 ^ 64 - 1 - found))
-  settle-round {found = found} w s =
-      let rest = set-mask (m .objects) (set-not (set-bits found w)) in
+  pub settle-round : {done found left next : ℕ} → found < 2 ^ 64 → Settling p set done found left
+      → next ≡ bitAnd (m .objects) (2 ^ 64 - 1 - found) → Settling p set found found next
+  settle-round {found = found} w s e =
+      let rest = set-equal (set-mask (m .objects) (set-not (set-bits found w))) e in
       record {
         only = s .only;
         start = s .start;

@@ -50,6 +50,10 @@ decides-true t = record { sound = λ e. e; complete = λ e. e }
 pub decides-eqb : (a b : ℕ) → Decides (eqb a b) (a ≡ b)
 decides-eqb a b = record { sound = eqb-true a b; complete = eq-eqb a b }
 
+-- Of a number that was written, that it is the one asked for.
+pub decides-number : (s k n : ℕ) → k ≡ n → Decides (eqb s k) (s ≡ n)
+decides-number s k n e = decides-as (decides-eqb s k) (λ q. q ∙ e) (λ q. q ∙ sym e)
+
 pub decides-ltb : (a b : ℕ) → Decides (ltb a b) (a < b)
 decides-ltb a b = record { sound = ltb-true a b; complete = lt-ltb a b }
 
@@ -143,9 +147,9 @@ pub none-next : (t : ℕ → Bool) (i : ℕ) → some i t ≡ false → t i ≡ 
 unfolding some
 none-next t i e f = rw (add-one, e, f)
 
-pub none-start : (t : ℕ → Bool) → some 0 t ≡ false
+pub none-start : (t : ℕ → Bool) (i : ℕ) → i ≡ 0 → some i t ≡ false
 unfolding some
-none-start t = refl
+none-start t i e = rw e
 
 pub none-end : (n : ℕ) (t : ℕ → Bool) (i : ℕ) → i ≤ n → n ≤ i → some i t ≡ false → some n t ≡ false
 none-end n t i l h e = subst (λ (k : ℕ). some k t ≡ false) (omega arith) e

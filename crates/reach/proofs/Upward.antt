@@ -77,9 +77,9 @@ pub record Climbing (s m : List ℕ) (x found met last : ℕ) : Type 0 where
   pub groups-met : (g : ℕ) → bit met g ≡ 1 → Group (view (reachOf s m)) g → bit found g ≡ 1
 
 module _ {s m : List ℕ} (x : ℕ) where
-  pub climb-start : InUse (view (reachOf s m)) x → x < 64 → let one = (1 * 2 ^ x) % 2 ^ 64 in
+  start-one : InUse (view (reachOf s m)) x → x < 64 → let one = (1 * 2 ^ x) % 2 ^ 64 in
       Climbing s m x one one (bitAnd (getD m x 0) (2 ^ 64 - 1 - one))
-  climb-start i l =
+  start-one i l =
       let one = set-one x l in
       let next = set-mask (getD m x 0) (set-not one) in
       record {
@@ -104,12 +104,17 @@ module _ {s m : List ℕ} (x : ℕ) where
         groups-met = λ g b j. b;
       }
 
-  -- A turn finds the groups among those met last, and meets what their rows have and was not met before.
-  pub climb-step : {found met last groups over : ℕ} → Climbing s m x found met last
+  -- The climb starts with x found, and what its row has met last.
+  pub climb-start : {found : ℕ} → InUse (view (reachOf s m)) x → x < 64 → found ≡ (1 * 2 ^ x) % 2 ^ 64
+      → Climbing s m x found found (bitAnd (getD m x 0) (2 ^ 64 - 1 - found))
+  climb-start i l e =
+      subst (λ (f : ℕ). Climbing s m x f f (bitAnd (getD m x 0) (2 ^ 64 - 1 - f))) (sym e) (start-one i l)
+
+  step-up : {found met last groups over : ℕ} → Climbing s m x found met last
       → SetOf groups (λ g. (bit last g ≡ 1) × (getD s g 0 ≡ 1))
       → SetOf over (Joined m groups)
       → Climbing s m x (bitOr found groups) (bitOr met last) (bitAnd over (2 ^ 64 - 1 - bitOr met last))
-  climb-step {found} {met} {last} {groups} {over} c w n =
+  step-up {found} {met} {last} {groups} {over} c w n =
       let f = set-or (set-bits found (c .found-word)) (set-bits groups (w .word)) in
       let k = set-or (set-bits met (c .met-word)) (set-bits last (c .undone .todo-word)) in
       let next = set-mask over (set-not (set-bits (bitOr met last) (k .word))) in
@@ -155,6 +160,15 @@ module _ {s m : List ℕ} (x : ℕ) where
           let f = set-or (set-bits found (c .found-word)) (set-bits groups (w .word)) in
           let k = set-or (set-bits met (c .met-word)) (set-bits last (c .undone .todo-word)) in
           f .all g (⊎-elim (λ a. inl (c .groups-met g a j)) (λ a. inr (w .all g (a, byte-of-group s m g j))) (k .only g b))
+
+  -- A turn finds the groups among those met last, and meets what their rows have and was not met before.
+  pub climb-step : {found met last groups over next : ℕ} → Climbing s m x found met last
+      → SetOf groups (λ g. (bit last g ≡ 1) × (getD s g 0 ≡ 1))
+      → SetOf over (Joined m groups)
+      → next ≡ bitAnd over (2 ^ 64 - 1 - bitOr met last)
+      → Climbing s m x (bitOr found groups) (bitOr met last) next
+  climb-step {found} {met} {last} {groups} c w n e =
+      subst (λ (z : ℕ). Climbing s m x (bitOr found groups) (bitOr met last) z) (sym e) (step-up c w n)
 
   -- Where nothing was met last, all is found.
   pub climb-end : {found met last : ℕ} → Climbing s m x found met last → last ≡ 0 → SetOf found (λ g. UnderBy s m x g)

@@ -52,6 +52,9 @@ module _ {P : ℕ → Type 0} where
   pub set-at : {s t : ℕ} → s ≡ t → SetOf t P → SetOf s P
   set-at e p = subst (λ (n : ℕ). SetOf n P) (sym e) p
 
+  pub set-equal : {s t : ℕ} → SetOf t P → s ≡ t → SetOf s P
+  set-equal p e = set-at e p
+
   pub set-none : ((x : ℕ) → P x → ⊥) → SetOf 0 P
   set-none n = record { word = lit< tt; only = λ x e. absurd (bit-none x e); all = λ x p. absurd (n x p) }
 

@@ -83,9 +83,10 @@ pub fn given_to(appointments: [Appointment; 32], u: u8, first: u64, second: u64)
     let mut pair = false;
     let mut i: usize = 0;
     while i < 32 {
-        owner |= a_of(appointments[i], 1, u);
-        manager |= a_of(appointments[i], 2, u);
-        pair |= covers(appointments[i], u, first, second);
+        let w = appointments[i];
+        owner |= a_of(w, 1, u);
+        manager |= a_of(w, 2, u);
+        pair |= covers(w, u, first, second);
         i += 1;
     }
     Given {

@@ -27,8 +27,10 @@ fn level_of<'a>(sorts: &'a [u8; 64], memberships: &'a [u64; 64], set: u64) -> Le
     while left != 0 {
         let h = u64::trailing_zeros(left) as usize;
         let one = 1u64 << h;
-        groups |= only_if(sorts[h] == 1, one);
-        over |= only_if(sorts[h] == 1, memberships[h]);
+        let group = sorts[h] == 1;
+        let row = memberships[h];
+        groups |= only_if(group, one);
+        over |= only_if(group, row);
         left &= !one;
     }
     Level { groups, over }

@@ -9,7 +9,7 @@ use Rattle.reach.specs.Privileges.{owner, manager}
 use Rattle.reach.specs.Asking.{CoversPair}
 use Rattle.reach.proofs.Testing.{decides-some-start, decides-some-next, decides-some-end}
 use Rattle.reach.proofs.Unions.{Union, union-none, union-add, union-end}
-use Rattle.reach.proofs.Posting.{Posted, appointed-over}
+use Rattle.reach.proofs.Posting.{Posted, of-kind, appointed-over}
 use borrow.Author.Needs.{needs}
 use Rattle.reach.proofs.appointments.given_to.Statement.{statement}
 use Rattle.reach.proofs.appointments.given_to.Tie as tie
@@ -27,23 +27,17 @@ abbrev μ-loop : tie.MeasureT-loop
 loop-holds : tie.Need-loop-holds Inv-loop μ-loop
 loop-holds c = (search needs, union-none _, union-none _, decides-some-start)
 
-array-copy-out-a-of : tie.Need-array-copy-out-a-of Inv-loop μ-loop
-array-copy-out-a-of c = c .loop-test .taken
-
-array-copy-out-a-of-2 : tie.Need-array-copy-out-a-of-2 Inv-loop μ-loop
-array-copy-out-a-of-2 c = c .before .before .loop-test .taken
-
-array-copy-out-covers : tie.Need-array-copy-out-covers Inv-loop μ-loop
-array-copy-out-covers c = c .before .before .before .before .loop-test .taken
+array-copy-out-w : tie.Need-array-copy-out-w Inv-loop μ-loop
+array-copy-out-w c = c .loop-test .taken
 
 loop-again : tie.Need-loop-again Inv-loop μ-loop
 loop-again c =
-    let second = c .before .before in
-    let first = second .before .before in
+    let second = c .before in
+    let first = second .before in
     let l = first .before .before .before .loop in (
       search needs,
-      union-add _ (l .inv .1) (first .a-of .ensures),
-      union-add _ (l .inv .2) (second .a-of2 .ensures),
+      union-add _ (l .inv .1) (of-kind (first .a-of .ensures) (omega arith)),
+      union-add _ (l .inv .2) (of-kind (second .a-of2 .ensures) (omega arith)),
       decides-some-next _ _ (l .inv .3) (c .covers .ensures),
     )
 
@@ -64,13 +58,9 @@ given-to-spec =
     μ-loop
     loop-holds
     (λ c. search needs)
-    array-copy-out-a-of
+    array-copy-out-w
     (λ c κs. search needs)
-    (λ c. search needs)
-    array-copy-out-a-of-2
     (λ c κs. search needs)
-    (λ c. search needs)
-    array-copy-out-covers
     (λ c κs. search needs)
     (λ c. search needs)
     (λ c. search needs)

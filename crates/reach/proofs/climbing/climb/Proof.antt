@@ -1,6 +1,6 @@
 -- The climb finds all that x is under: the invariant is `Climbing`, and the measure is what `met` may still grow by, whatever the tables.
 use native.Mathlib.Omega.{arith}
-use mathlib.Core.Path.{sym, _∙_}
+use mathlib.Core.Path.{_∙_}
 use Prim.Native.Nat.{_-_, _^_}
 use Rattle.reach.proofs.WordSets.{set-none}
 use Rattle.reach.proofs.Reaching.{under-lower}
@@ -18,7 +18,7 @@ abbrev μ-loop : tie.MeasureT-loop
 μ-loop sorts memberships x n found₀ met₀ last₀ found met last = 2 ^ 64 - met
 
 returns : tie.Need-returns Inv-loop μ-loop
-returns c = set-none (λ g u. in-use-not _ _ _ (sym (c .before .sort-in .ensures) ∙ c .if1 .taken) (under-lower u))
+returns c = set-none (λ g u. in-use-not _ _ _ (omega (arith, c .before .sort-in .ensures, c .if1 .taken)) (under-lower u))
 
 returns-2 : tie.Need-returns-2 Inv-loop μ-loop
 returns-2 c = set-none (λ g u. omega (arith, in-use-below _ _ (under-lower u), c .if2 .taken))
@@ -26,13 +26,13 @@ returns-2 c = set-none (λ g u. omega (arith, in-use-below _ _ (under-lower u), 
 loop-holds : tie.Need-loop-holds Inv-loop μ-loop
 loop-holds c =
     let t = c .before .before in
-    climb-start _ (in-use-by _ _ _ (λ e. t .if1 .left (t .before .sort-in .ensures ∙ e))) (search needs)
+    climb-start _ (in-use-by _ _ _ (λ e. t .if1 .left (t .before .sort-in .ensures ∙ e))) (search needs) (omega arith)
 
 loop-less : tie.Need-loop-less Inv-loop μ-loop
 loop-less c = let t = c .before .before .before in less-all _ _ (t .before .loop .inv .undone) (t .loop-test .taken)
 
 loop-again : tie.Need-loop-again Inv-loop μ-loop
-loop-again c = let t = c .before .before in climb-step _ (t .before .before .loop .inv) (t .level-of .ensures .0) (t .level-of .ensures .1)
+loop-again c = let t = c .before .before in climb-step _ (t .before .before .loop .inv) (t .level-of .ensures .0) (t .level-of .ensures .1) (omega arith)
 
 returns-3 : tie.Need-returns-3 Inv-loop μ-loop
 returns-3 c = climb-end _ (c .before .loop .inv) (c .loop-test .left)

@@ -9,7 +9,7 @@ use lib.ListN.{getD}
 use Rattle.reach.specs.Words.{bit, SetOf}
 use Rattle.reach.specs.Asking.{Joined}
 use Rattle.reach.proofs.Bits.{lowest-bit}
-use Rattle.reach.proofs.Testing.{decides-eqb}
+use Rattle.reach.proofs.Testing.{decides-number}
 use Rattle.reach.proofs.Gathering.{left-less, Picking, pick-start, pick-step, pick-end, join-start, join-step}
 use borrow.Author.Needs.{needs}
 use Rattle.reach.proofs.climbing.level_of.Statement.{statement}
@@ -35,31 +35,28 @@ cast-h c = omega (arith, low c .0)
 shl-one : tie.Need-shl-one Inv-loop μ-loop
 shl-one c = low c .0
 
-element-copy-out-only-if : tie.Need-element-copy-out-only-if Inv-loop μ-loop
-element-copy-out-only-if c = low c .0
+element-copy-out-group : tie.Need-element-copy-out-group Inv-loop μ-loop
+element-copy-out-group c = low c .0
 
-element-copy-out-only-if-2 : tie.Need-element-copy-out-only-if-2 Inv-loop μ-loop
-element-copy-out-only-if-2 c = low (c .before .before) .0
+mul-row : tie.Need-mul-row Inv-loop μ-loop
+mul-row c = omega (arith, low (c .before) .0)
 
-mul-only-if : tie.Need-mul-only-if Inv-loop μ-loop
-mul-only-if c = omega (arith, low (c .before .before .before) .0)
-
-element-copy-out-only-if-3 : tie.Need-element-copy-out-only-if-3 Inv-loop μ-loop
-element-copy-out-only-if-3 c = low (c .before .before .before) .0
+element-copy-out-row : tie.Need-element-copy-out-row Inv-loop μ-loop
+element-copy-out-row c = low (c .before) .0
 
 loop-less : tie.Need-loop-less Inv-loop μ-loop
 loop-less c =
-    let i = c .before .before .before .before .before in
+    let i = c .before .before .before .before in
     left-less (i .before .loop .inv .0 .left-word) (trailingZeros 64 (i .before .loop .left)) (low i .1)
 
 loop-again : tie.Need-loop-again Inv-loop μ-loop
 loop-again c =
-    let k = c .before .before .before in
-    let i = k .before .before in
+    let k = c .before in
+    let i = k .before .before .before in
     let l = i .before .loop in
     let h = trailingZeros 64 (l .left) in (
-      pick-step _ (l .inv .0) h (low i .1) (decides-eqb _ 1) (k .only-if .ensures),
-      join-step (now (i .before .before .args .memberships)) _ _ h (low i .0) (l .inv .1) (k .only-if .ensures) (c .only-if2 .ensures),
+      pick-step _ (l .inv .0) h (low i .1) (decides-number _ _ 1 (omega arith)) (k .only-if .ensures),
+      join-step (now (i .before .before .args .memberships)) _ _ h (low i .0) (l .inv .1) (k .only-if .ensures) (c .only-if2 .ensures) (omega arith),
     )
 
 returns : tie.Need-returns Inv-loop μ-loop
@@ -74,11 +71,10 @@ level-of-spec =
     loop-holds
     cast-h
     shl-one
-    element-copy-out-only-if
+    element-copy-out-group
+    mul-row
+    element-copy-out-row
     (λ c κs. search needs)
-    element-copy-out-only-if-2
-    mul-only-if
-    element-copy-out-only-if-3
     (λ c κs. search needs)
     loop-less
     loop-again

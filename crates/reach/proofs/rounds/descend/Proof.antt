@@ -39,7 +39,7 @@ loop-holds c = (sweep-start (search needs) (c .before .args .set), λ p k. settl
 loop2-holds : tie.Need-loop2-holds Inv-loop2 μ-loop2 Inv-loop μ-loop
 loop2-holds c =
     let l = c .before .before .loop in
-    (sweep-round (search needs) (l .inv .0), λ p k. settle-round k (l .inv .0 .found-word) (l .inv .1 p k))
+    (sweep-round (search needs) (l .inv .0) (omega arith), λ p k. settle-round k (l .inv .0 .found-word) (l .inv .1 p k) (omega arith))
 
 loop-less : tie.Need-loop-less Inv-loop2 μ-loop2 Inv-loop μ-loop
 loop-less c =

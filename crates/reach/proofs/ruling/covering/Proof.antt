@@ -1,6 +1,7 @@
 -- The loop has met no rule that covers, so the one that it finds is the lowest.
 use mathlib.Core.Path.{_≡_, sym, _∙_}
 use mathlib.Core.Bool.{false}
+use native.Mathlib.Omega.{arith}
 use Prim.Native.Nat.{_-_, _≤_}
 use lib.ListN.{getD}
 use Rattle.reach.specs.Tests.{some}
@@ -18,7 +19,7 @@ abbrev μ-loop : tie.MeasureT-loop
 μ-loop k users targets rules i₀ i = 64 - i
 
 loop-holds : tie.Need-loop-holds Inv-loop μ-loop
-loop-holds c = (search needs, none-start _)
+loop-holds c = (search needs, none-start _ _ (omega arith))
 
 array-copy-out-covered : tie.Need-array-copy-out-covered Inv-loop μ-loop
 array-copy-out-covered c = c .loop-test .taken

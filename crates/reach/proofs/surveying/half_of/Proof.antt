@@ -4,7 +4,7 @@ use native.Mathlib.Omega.{arith}
 use Prim.Native.Nat.{_+_, _-_, _≤_, _<_}
 use lib.ListN.{getD}
 use Rattle.reach.specs.Words.{SetOf}
-use Rattle.reach.proofs.Testing.{decides-eqb}
+use Rattle.reach.proofs.Testing.{decides-number}
 use Rattle.reach.proofs.WordSets.{set-as, gathered-none, gathered-next}
 use borrow.Author.Needs.{needs}
 use Rattle.reach.proofs.surveying.half_of.Statement.{statement}
@@ -27,9 +27,9 @@ loop-again : tie.Need-loop-again Inv-loop μ-loop
 loop-again c =
     let s = c .before .before .before .before in (
       search needs,
-      gathered-next _ (s .loop .inv .1) (c .before .before .mark .ensures) (decides-eqb _ 1),
-      gathered-next _ (s .loop .inv .2) (c .before .mark2 .ensures) (decides-eqb _ 2),
-      gathered-next _ (s .loop .inv .3) (c .mark3 .ensures) (decides-eqb _ 3),
+      gathered-next _ (s .loop .inv .1) (c .before .before .mark .ensures) (decides-number _ _ 1 (omega arith)),
+      gathered-next _ (s .loop .inv .2) (c .before .mark2 .ensures) (decides-number _ _ 2 (omega arith)),
+      gathered-next _ (s .loop .inv .3) (c .mark3 .ensures) (decides-number _ _ 3 (omega arith)),
     )
 
 returns : tie.Need-returns Inv-loop μ-loop

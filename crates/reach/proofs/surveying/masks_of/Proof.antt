@@ -1,7 +1,7 @@
 -- The masks are the sets of the objects of each sort, each of two halves, and all that is in use is of one of the three sorts.
 use native.Mathlib.Omega.{arith}
 use Rattle.reach.proofs.Sorts.{sort-set, in-use-cases, in-use-of-sort}
-use Rattle.reach.proofs.WordSets.{set-as, set-or, set-halves}
+use Rattle.reach.proofs.WordSets.{set-as, set-or, set-equal, set-halves}
 use borrow.Author.Needs.{needs}
 use Rattle.reach.proofs.surveying.masks_of.Statement.{statement}
 use Rattle.reach.proofs.surveying.masks_of.Tie as tie
@@ -14,7 +14,7 @@ returns c = λ p e.
     let users = sort-set p _ e 2 (omega arith) (omega arith) (set-halves (c .before .joined2 .ensures) (low .1) (high .1)) in
     let targets = sort-set p _ e 3 (omega arith) (omega arith) (set-halves (c .joined3 .ensures) (low .2) (high .2)) in
     record {
-      objects = set-as (set-or (set-or groups users) targets) (in-use-of-sort p) (in-use-cases p);
+      objects = set-equal (set-as (set-or (set-or groups users) targets) (in-use-of-sort p) (in-use-cases p)) (omega arith);
       groups = groups;
       users = users;
       targets = targets;
