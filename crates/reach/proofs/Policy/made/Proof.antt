@@ -1,5 +1,5 @@
 -- The loop takes x out of the first i rows, and leaves the other tables; then row x is emptied, and is the set with g.
-use mathlib.Core.Path.{_≡_, refl, ap, _∙_}
+use mathlib.Core.Path.{_≡_, refl, sym, ap, _∙_}
 use mathlib.Core.List.{map}
 use native.Mathlib.Omega.{arith}
 use Prim.Native.Nat.{ℕ, _-_, _*_, _%_, _^_, _≤_, _<_}
@@ -42,10 +42,12 @@ loop-again c =
     let l = c .before .before in
     let a = l .before .before .before .args in (
       search needs,
-      ap
+      rw
+          (sym
+          (ap
           (λ (p : Policy). withMembers p (set (p .memberships) (l .loop .i) (masked (a .x) (getD (p .memberships) (l .loop .i) 0))))
           (l .loop .inv .1)
-          ∙ ap (withMembers (a .t1)) (map-to-next (masked (a .x)) (l .loop .i) (a .t1 .memberships)),
+          ∙ ap (withMembers (a .t1)) (map-to-next (masked (a .x)) (l .loop .i) (a .t1 .memberships)))),
     )
 
 returns-3 : tie.Need-returns-3 Inv-loop μ-loop

@@ -1,4 +1,6 @@
 -- On the table the machine's word is the set with g, and past it nothing changes.
+use mathlib.Core.Path.{sym}
+use lib.ListN.{getD}
 use borrow.Author.Tests.{lt-ltb, le-ltb}
 use Rattle.reach.specs.Successors.{put}
 use Rattle.reach.proofs.OneBit.{or-is-with}
@@ -19,7 +21,11 @@ unfolding put
 returns-3 c =
     let t = c .before in
     let a = t .before .before .args in
-    rw (lt-ltb _ _ (t .before .if1 .left), lt-ltb _ _ (t .if2 .left), or-is-with (a .g) _ (search needs))
+    rw (
+      lt-ltb _ _ (t .before .if1 .left),
+      lt-ltb _ _ (t .if2 .left),
+      sym (or-is-with (a .g) (getD (a .t1 .memberships) (a .x) 0) (search needs)),
+    )
 
 pub put-spec : {M : Type 1} → statement M
 put-spec =

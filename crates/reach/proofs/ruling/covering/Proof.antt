@@ -36,7 +36,7 @@ loop-again c =
     (search needs, none-next _ _ (t .before .loop .inv .1) (sym (c .before .covered .ensures) ∙ c .if1 .left))
 
 returns-2 : tie.Need-returns-2 Inv-loop μ-loop
-returns-2 c = let l = c .before .loop in sym (lowest-none 64 _ (none-end 64 _ _ (l .inv .0) (c .loop-test .left) (l .inv .1)))
+returns-2 c = let l = c .before .loop in rw (lowest-none 64 _ (none-end 64 _ _ (l .inv .0) (c .loop-test .left) (l .inv .1)))
 
 pub covering-spec : {M : Type 1} → statement M
 covering-spec =
