@@ -11,7 +11,7 @@ use Rattle.reach.specs.declared.Appointment.{Appointment}
 use Rattle.reach.specs.Words.{SetOf}
 use Rattle.reach.specs.Tests.{Some, Decides}
 use Rattle.reach.specs.Tables.{noAppointment, view}
-use Rattle.reach.specs.Reach.{InUse, Under, itself}
+use Rattle.reach.specs.Reach.{InUse, itself}
 use Rattle.reach.specs.Privileges.{Holds, Administers}
 use Rattle.reach.specs.Asking.{UnderBy, HeldOver, CoversPair}
 use Rattle.reach.proofs.Testing.{decides-as, decides-at, decides-not}
@@ -21,7 +21,7 @@ use Rattle.reach.proofs.Chains.{in-use-below}
 use Rattle.reach.proofs.AsRead.{appointment-is}
 use Rattle.reach.proofs.Deciding.{administers-decides}
 use Rattle.reach.proofs.Meeting.{climbed, meet-holds, holds-meet, pair-covered}
-use Rattle.gains.specs.Lacking.{Above}
+use Rattle.gains.specs.Lacking.{Above, Opened}
 use Rattle.gains.specs.Lending.{Lent, Heard}
 use Rattle.gains.proofs.Searched.{decides-empty}
 
@@ -41,7 +41,7 @@ appointment-lent p e i = appointment-is p i ∙ ap (λ (m : List Appointment). g
 
 -- What is above g and not above x, as a set.
 pub opened-set : (p : Policy) {x g object group : ℕ} → Above p x object → Above p g group
-    → SetOf (bitAnd group (2 ^ 64 - 1 - object)) (λ t. Under (view p) g t × (Under (view p) x t → ⊥))
+    → Opened p x g (bitAnd group (2 ^ 64 - 1 - object))
 opened-set p {group = group} o s =
     set-as
     (set-mask group (set-not o))

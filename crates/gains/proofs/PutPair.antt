@@ -18,6 +18,7 @@ use Rattle.reach.proofs.Frames.{put-keeps, put-adds, put-adds-only}
 use Rattle.reach.proofs.Testing.{refuted}
 use Rattle.reach.proofs.Deciding.{administers-decides}
 use Rattle.gains.specs.Lacking.{LacksA, LacksB, LacksPairBy, LacksPair}
+use Rattle.gains.specs.Lending.{Heard}
 use Rattle.gains.proofs.Downward.{administers-down}
 use Rattle.gains.proofs.Lending.{appointment-lent}
 
@@ -166,6 +167,13 @@ side-a s o = record { above = s .0; not-above = s .1; other = o .0; lacks = o .1
 
 pub side-b : {v : View} {u x g a b : ℕ} → Under v g b × (Under v x b → ⊥) → InUse v a × (Administers v u a x → ⊥) → LacksB v u x g a b
 side-b s o = record { above = s .0; not-above = s .1; other = o .0; lacks = o .1 }
+
+-- What is told of its holder is told of u, if he is the holder.
+pub told-of-holder : (p : Policy) {s m : List ℕ} {l : List Appointment} {h u x g a b : ℕ} {t : Bool} → h ≡ u
+    → (Heard p s m l h → Decides t (LacksA (view p) h x g a b ⊎ LacksB (view p) h x g a b)) → Heard p s m l u
+    → Decides t (LacksA (view p) u x g a b ⊎ LacksB (view p) u x g a b)
+told-of-holder p {s} {m} {l} {x = x} {g = g} {a = a} {b = b} {t = t} e d k =
+    subst (λ (h : ℕ). Heard p s m l h → Decides t (LacksA (view p) h x g a b ⊎ LacksB (view p) h x g a b)) e d k
 
 module _ (p : Policy) (u x g i : ℕ) {l : List Appointment} (e : p .appointments ≡ l) where
   -- This appointment is an administrator's, his, and one of its sides tells.

@@ -17,6 +17,10 @@ use Rattle.reach.specs.Privileges.{owner, manager, administrator, Holds, Owns, 
 abbrev pub Above : Policy → ℕ → ℕ → Type 0
 Above p x s = SetOf s (λ g. Under (view p) x g)
 
+-- The set is all that g is under and x is not.
+abbrev pub Opened : Policy → ℕ → ℕ → ℕ → Type 0
+Opened p x g s = SetOf s (λ t. Under (view p) g t × (Under (view p) x t → ⊥))
+
 -- He holds g and not x.
 pub record LacksHeld (v : View) (kind u x g : ℕ) : Type 0 where
   pub has : Holds v kind u g

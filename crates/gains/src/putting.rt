@@ -9,7 +9,7 @@ ghost use Rattle.reach.specs.Reach.{InUse};
 ghost use Rattle.reach.specs.Privileges.{Administers};
 ghost use Rattle.rules.specs.declared.Request.the-variants.{Put};
 ghost use Rattle.gains.specs.Giving.{givenBy};
-ghost use Rattle.gains.specs.Lacking.{Grows, LacksPair, Above};
+ghost use Rattle.gains.specs.Lacking.{Grows, LacksA, LacksB, LacksPair, Above, Opened};
 ghost use Rattle.gains.specs.Lending.{Heard};
 use crate::handing::handed;
 use crate::handing::hands_over;
@@ -66,8 +66,32 @@ fn lacks_second<'a>(
     !covers_pair(appointments, u, over, object)
 }
 
-// Whether u comes to administer a pair by an administrator's appointment of his: one of its sides is above g and not above x, and he lacks the
-// pair of x and the other side.
+// Whether the holder of this administrator's appointment comes to administer a pair by it: one of its sides is opened, and he lacks the pair
+// of the object and the other side.
+fn pair_comes<'a>(
+    sorts: &'a [u8; 64],
+    memberships: &'a [u64; 64],
+    appointments: [Appointment; 32],
+    w: Appointment,
+    object: u64,
+    opened: u64,
+) -> bool
+    ensures { λ r. ⌜ ((p : Policy) (x g : ℕ) → Heard p (now (sorts .entry)) (now (memberships .entry)) appointments (w .holder) →
+        Above p x object → Opened p x g opened →
+        Decides r (LacksA (view p) (w .holder) x g (w .a) (w .b) ⊎ LacksB (view p) (w .holder) x g (w .a) (w .b))) ⌝ }
+{
+    if has(opened, w.a) {
+        if lacks_first(sorts, memberships, appointments, w.holder, w.b, object) {
+            return true;
+        }
+    }
+    if !has(opened, w.b) {
+        return false;
+    }
+    lacks_second(sorts, memberships, appointments, w.holder, w.a, object)
+}
+
+// Whether u comes to administer a pair by one of his appointments.
 fn pairs_come<'a>(
     sorts: &'a [u8; 64],
     memberships: &'a [u64; 64],
@@ -85,15 +109,8 @@ fn pairs_come<'a>(
         let w = appointments[i];
         if w.holder == u {
             if w.kind == 3 {
-                if has(opened, w.a) {
-                    if lacks_first(sorts, memberships, appointments, u, w.b, object) {
-                        return true;
-                    }
-                }
-                if has(opened, w.b) {
-                    if lacks_second(sorts, memberships, appointments, u, w.a, object) {
-                        return true;
-                    }
+                if pair_comes(sorts, memberships, appointments, w, object, opened) {
+                    return true;
                 }
             }
         }

@@ -1,16 +1,15 @@
 -- The loop has met no appointment by which a pair comes: it is another's, or no administrator's, or neither of its sides tells.
-use mathlib.Core.Logic.{inl, inr, ⊎-elim}
+use mathlib.Core.Logic.{⊎-elim}
 use native.Mathlib.Omega.{arith}
 use Prim.Native.Nat.{ℕ, _-_, _≤_}
 use Rattle.reach.specs.declared.Policy.{Policy}
 use Rattle.reach.specs.Tests.{Some}
 use Rattle.reach.specs.Tables.{view}
-use Rattle.reach.proofs.Testing.{refuted, decides-at, decides-none, decides-some-at, some-not-start, some-not-next, some-not-end}
-use Rattle.reach.proofs.WordSets.{decides-has}
+use Rattle.reach.proofs.Testing.{refuted, decides-none, decides-some-at, some-not-start, some-not-next, some-not-end}
 use Rattle.gains.specs.Lacking.{LacksPairBy, Above}
 use Rattle.gains.specs.Lending.{Heard}
 use Rattle.gains.proofs.Lending.{opened-set}
-use Rattle.gains.proofs.PutPair.{side-a, side-b, lacks-pair-here, lacks-pair-not}
+use Rattle.gains.proofs.PutPair.{told-of-holder, lacks-pair-here, lacks-pair-not}
 use borrow.Author.Needs.{needs}
 use Rattle.gains.proofs.putting.pairs_come.Statement.{statement}
 use Rattle.gains.proofs.putting.pairs_come.Tie as tie
@@ -29,30 +28,12 @@ loop-holds c = (search needs, λ p x g k o s w. some-not-start w)
 
 returns : tie.Need-returns Inv-loop μ-loop
 returns c = λ p x g k o s.
-    let h = c .before .before in
-    let t = h .before .before in
+    let t = c .before .before in
     let b = t .before .before in
     decides-some-at _ (b .before .before .before .loop-test .taken)
     (lacks-pair-here p _ _ _ _ (k .appointments) (
       (t .if2 .taken, b .if1 .taken),
-      inl
-          (side-a
-          (decides-at (h .before .has .ensures) (decides-has (opened-set p o s) _) .sound (h .if3 .taken))
-          (c .before .lacks-first .ensures p x k o .sound (c .if4 .taken))),
-    ))
-
-returns-2 : tie.Need-returns-2 Inv-loop μ-loop
-returns-2 c = λ p x g k o s.
-    let h = c .before .before in
-    let t = h .before .before .before .before in
-    let b = t .before .before in
-    decides-some-at _ (b .before .before .before .loop-test .taken)
-    (lacks-pair-here p _ _ _ _ (k .appointments) (
-      (t .if2 .taken, b .if1 .taken),
-      inr
-          (side-b
-          (decides-at (h .before .has2 .ensures) (decides-has (opened-set p o s) _) .sound (h .if5 .taken))
-          (c .before .lacks-second .ensures p x k o .sound (c .if6 .taken))),
+      told-of-holder p (b .if1 .taken) (λ h. c .before .pair-comes .ensures p x g h o (opened-set p o s)) k .sound (c .if3 .taken),
     ))
 
 loop-again : tie.Need-loop-again Inv-loop μ-loop
@@ -65,32 +46,14 @@ loop-again c =
           (lacks-pair-not p _ _ _ _ (k .appointments)
           (λ v.
           ⊎-elim
-          (λ b.
-          ⊎-elim
-          (λ m.
-          ⊎-elim
-          (λ z. refuted (z .1 .ensures p x k o) (z .2 .left) (m .other, m .lacks))
-          (λ z. refuted (decides-at (b .3 .ensures) (decides-has (opened-set p o s) _)) (z .left) (m .above, m .not-above))
-          (b .4 .came))
-          (λ m. refuted (b .7 .ensures p x k o) (b .8 .left) (m .other, m .lacks))
-          (v .1))
-          (⊎-elim
-          (λ b.
-          ⊎-elim
-          (λ m.
-          ⊎-elim
-          (λ z. refuted (z .1 .ensures p x k o) (z .2 .left) (m .other, m .lacks))
-          (λ z. refuted (decides-at (b .3 .ensures) (decides-has (opened-set p o s) _)) (z .left) (m .above, m .not-above))
-          (b .4 .came))
-          (λ m. refuted (decides-at (b .5 .ensures) (decides-has (opened-set p o s) _)) (b .6 .left) (m .above, m .not-above))
-          (v .1))
-          (⊎-elim (λ b. b .2 .left (v .0 .0)) (λ b. b .left (v .0 .1))))
+          (λ b. refuted (told-of-holder p (b .0 .taken) (λ h. b .3 .ensures p x g h o (opened-set p o s)) k) (b .4 .left) (v .1))
+          (⊎-elim (λ b. b .2 .left (v .0 .0)) (λ b. b .left (v .0 .1)))
           (c .if1 .came)))
           w,
     )
 
-returns-3 : tie.Need-returns-3 Inv-loop μ-loop
-returns-3 c = λ p x g k o s.
+returns-2 : tie.Need-returns-2 Inv-loop μ-loop
+returns-2 c = λ p x g k o s.
     decides-none (λ w. some-not-end 32 (omega (arith, c .loop-test .left)) (c .before .loop .inv .1 p x g k o s) w)
 
 pub pairs-come-spec : {M : Type 1} → statement M
@@ -103,12 +66,8 @@ pairs-come-spec =
     (λ c. search needs)
     (λ c. search needs)
     (λ c κs. search needs)
-    (λ c κs. search needs)
     returns
-    (λ c κs. search needs)
-    (λ c κs. search needs)
-    returns-2
     (λ c. search needs)
     (λ c. search needs)
     loop-again
-    returns-3)
+    returns-2)
