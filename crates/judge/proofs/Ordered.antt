@@ -22,6 +22,7 @@ use Rattle.rules.specs.Refusals.{torn, unknown, misfit, stranger, offTheSheet, 
 use Rattle.rules.specs.Refusals.{handOver, orphan}
 use Rattle.rules.specs.Judging.{codeOf, doneBy, done, verdictOn, verdict, accepted, judge}
 use Rattle.judge.specs.declared.Asked.{Asked}
+use Rattle.judge.specs.Naming.{namedBy}
 use Rattle.judge.specs.Answering.{answered, changes, formedBy, allowedBy, harmlessBy, readOf}
 
 -- ---- Checks in a row
@@ -180,6 +181,9 @@ module _ (p : Policy) (b : List ℕ) {r : Asked} (e : r ≡ readOf p b) where
 
   pub read-asked : r .request ≡ request b
   read-asked = rw e
+
+  pub read-named : r .named ≡ namedBy p (r .request)
+  read-named = rw e
 
 -- So it leaves the policy as it is.
 kept : (p : Policy) (b : List ℕ) (u : ℕ) (q : Request) → changes (verdictOn p b u q) ≡ false → codeOf (verdictOn p b u q) ≡ 0

@@ -12,14 +12,16 @@ use Rattle.rules.specs.Records.{sender, request}
 use Rattle.rules.specs.Refusals.{alreadySo, noAuthority, orphan}
 use Rattle.rules.specs.Judging.{done}
 use Rattle.gains.specs.Giving.{givenBy}
+use Rattle.judge.specs.declared.records.Named.{Named}
+use Rattle.judge.specs.Naming.{namedBy}
 use Rattle.judge.specs.Answering.{changes, formedBy, allowedBy, harmlessBy, readOf}
 use Rattle.judge.specs.Kind.{isUse, canGain}
 use Rattle.judge.proofs.ByKind.{no-own-gain, no-hand-over, gain-no-orphan, use-not-so, done-by-none}
 
 -- A record as it is read.
-pub read-is : (p : Policy) (b : List ℕ) {u : ℕ} {q : Request} {v : Verdict} → u ≡ sender b → q ≡ request b → v ≡ formedBy p b u q
-    → record { sender = u; request = q; verdict = v } ≡ readOf p b
-read-is p b e f g = rw (g, e, f)
+pub read-is : (p : Policy) (b : List ℕ) {u : ℕ} {q : Request} {n : Named} {v : Verdict} → u ≡ sender b → q ≡ request b → n ≡ namedBy p q
+    → v ≡ formedBy p b u q → record { sender = u; request = q; named = n; verdict = v } ≡ readOf p b
+read-is p b e f n g = rw (g, n, e, f)
 
 pub stays : (v n : Verdict) → changes v ≡ false → v ≡ (changes v ⇒ n ∥ v)
 stays v n e = rw e

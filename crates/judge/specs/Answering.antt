@@ -14,6 +14,7 @@ use Rattle.rules.specs.Refusals.{torn, unknown, misfit, stranger, offTheSheet, 
 use Rattle.rules.specs.Refusals.{handOver, orphan}
 use Rattle.rules.specs.Judging.{done}
 use Rattle.judge.specs.declared.Asked.{Asked}
+use Rattle.judge.specs.Naming.{namedBy}
 
 -- The verdict changes the policy: it is done, and no USE.
 abbrev pub changes : Verdict → Bool
@@ -52,9 +53,15 @@ allowedBy p u q = alreadySo p q ⇒ AlreadySo ∥ noAuthority p u q ⇒ NoAuthor
 abbrev pub harmlessBy : Policy → ℕ → Request → Verdict
 harmlessBy p u q = ownGain p u q ⇒ OwnGain ∥ handOver p u q ⇒ HandOver ∥ orphan p q ⇒ Orphan ∥ Done
 
--- The record, read, and what the first seven checks say of it.
+-- The record, read, what stands at the place that it names, and what the first seven checks say of it.
 abbrev pub readOf : Policy → List ℕ → Asked
-readOf p b = record { sender = sender b; request = request b; verdict = formedBy p b (sender b) (request b) }
+readOf p b =
+    record {
+      sender = sender b;
+      request = request b;
+      named = namedBy p (request b);
+      verdict = formedBy p b (sender b) (request b);
+    }
 
 -- A policy, and a verdict on it. A refusal hands back the policy as it was.
 abbrev pub answered : Policy → Verdict → Answer

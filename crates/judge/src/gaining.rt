@@ -45,11 +45,10 @@ pub fn permission_gained(p: Policy, u: u8, q: Request) -> Gain
 pub fn own_gain_of(p: Policy, bytes: &[u8]) -> Gain
     ensures { λ r. ⌜ OwnGainOf p (now (bytes .entry)) r ⌝ }
 {
-    let record = read(p, bytes);
-    let u = record.sender;
-    let q = record.request;
-    let early = record.verdict;
-    let v = harmless(p, u, q, allowed(p, u, q, early));
+    let asked = read(p, bytes);
+    let u = asked.sender;
+    let q = asked.request;
+    let v = harmless(p, u, q, allowed(p, asked));
     if code_of(v) != 10 {
         return Gain::Nothing;
     }

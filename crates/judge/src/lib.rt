@@ -49,10 +49,11 @@ use rules::Request;
 use rules::Verdict;
 use using::used;
 
-// Who sends a record, what it asks for, and what the first seven checks say of it.
+// Who sends a record, what it asks for, what stands at the place that it names, and what the first seven checks say of it.
 struct Asked {
     sender: u8,
     request: Request,
+    named: Named,
     verdict: Verdict,
 }
 
@@ -129,15 +130,15 @@ fn read(p: Policy, bytes: &[u8]) -> Asked
     Asked {
         sender,
         request,
+        named,
         verdict,
     }
 }
 
 // Checks 8 and 9 of all but a USE: what the sender holds over the two objects that the request is about is asked of the policy once.
-fn entitled(p: Policy, u: u8, q: Request) -> Verdict
-    ensures { λ r. ⌜ (isUse q ≡ false → r ≡ allowedBy p u q) ⌝ }
+fn entitled(p: Policy, named: Named, u: u8, q: Request) -> Verdict
+    ensures { λ r. ⌜ (named ≡ namedBy p q → isUse q ≡ false → r ≡ allowedBy p u q) ⌝ }
 {
-    let named = named_in(p, q);
     let held = p.held(u, first_of(named, q), second_of(named, q));
     if already_so(named, held, q) {
         return Verdict::AlreadySo;
@@ -149,16 +150,21 @@ fn entitled(p: Policy, u: u8, q: Request) -> Verdict
 }
 
 // Checks 8 and 9, after those before; a USE that passes is done.
-fn allowed(p: Policy, u: u8, q: Request, v: Verdict) -> Verdict
-    ensures { λ r. ⌜ r ≡ (changes v ⇒ allowedBy p u q ∥ v) ⌝ }
+fn allowed(p: Policy, asked: Asked) -> Verdict
+    ensures { λ r. ⌜ (asked .named ≡ namedBy p (asked .request) →
+        r ≡ (changes (asked .verdict) ⇒ allowedBy p (asked .sender) (asked .request) ∥ asked .verdict)) ⌝ }
 {
+    let v = asked.verdict;
     if !changes(v) {
         return v;
     }
+    let u = asked.sender;
+    let q = asked.request;
     if is_use(q) {
         return used(p, u, q);
     }
-    entitled(p, u, q)
+    let named = asked.named;
+    entitled(p, named, u, q)
 }
 
 // Checks 10 to 12, after those before: what the request would give, and what it would leave without an owner.
@@ -186,11 +192,10 @@ pub fn judge(p: Policy, bytes: &[u8]) -> Answer
     ensures { λ r. ⌜ r ≡ judge p (now (bytes .entry)) ⌝ }
     ensures { λ r. ⌜ OneAnswer p r ⌝ }
 {
-    let record = read(p, bytes);
-    let u = record.sender;
-    let q = record.request;
-    let early = record.verdict;
-    let v = harmless(p, u, q, allowed(p, u, q, early));
+    let asked = read(p, bytes);
+    let u = asked.sender;
+    let q = asked.request;
+    let v = harmless(p, u, q, allowed(p, asked));
     if changes(v) {
         return answer(after(p, q), v);
     }

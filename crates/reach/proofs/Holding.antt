@@ -1,10 +1,11 @@
 -- What a user holds over two objects, told by the single tables at once: each part is the test of the policy's own question.
-use mathlib.Core.Path.{_≡_, sym}
-use mathlib.Core.Bool.{Bool, false, not, _&&_}
+use mathlib.Core.Path.{_≡_, refl, sym, _∙_}
+use mathlib.Core.Bool.{Bool, true, false, not, _&&_}
 use Prim.Native.Nat.{ℕ}
 use lib.Bits.{bitAnd}
 use lib.Dec.{eqb, ltb}
 use lib.ListN.{getD}
+use borrow.Author.Tests.{eqb-true, eqb-false}
 use Rattle.reach.specs.declared.Policy.{Policy}
 use Rattle.reach.specs.Words.{has, SetOf}
 use Rattle.reach.specs.Tests.{Some, Decides}
@@ -14,7 +15,7 @@ use Rattle.reach.specs.Privileges.{owner, manager, owns, manages, admini
 use Rattle.reach.specs.Asking.{UnderBy, AppointedOver, CoversPair, heldOf}
 use Rattle.reach.proofs.Testing.{decides-same, fails}
 use Rattle.reach.proofs.Deciding.{holds-decides, administers-decides}
-use Rattle.reach.proofs.Meeting.{climbed, over-held, holds-meets, pair-covered}
+use Rattle.reach.proofs.Meeting.{user-of-sort, sort-of-user, climbed, over-held, holds-meets, pair-covered}
 
 -- Whether x is directly in y, read of the two sorts and of the row of x.
 pub direct-by : (p : Policy) (x y a b w : ℕ) {t : Bool} → a ≡ sortIn (p .sorts) x → b ≡ sortIn (p .sorts) y
@@ -83,3 +84,28 @@ module _ (p : Policy) (u x y : ℕ) where
       (decides-same _ _ (holds-meets p theirs other) (holds-decides _ _ _ _))
       (pair-covered p user over _ other covered)
       e
+
+  -- So it is whoever asks: the sort of u tells which.
+  pub held-by : {s o m a b : ℕ} {c d : Bool} → s ≡ sortIn (p .sorts) u
+      → SetOf o (AppointedOver (p .appointments) owner u) → SetOf m (AppointedOver (p .appointments) manager u)
+      → SetOf a (λ g. UnderBy (p .sorts) (p .memberships) x g) → SetOf b (λ g. UnderBy (p .sorts) (p .memberships) y g)
+      → Decides c (Some 32 (λ i. CoversPair (getD (p .appointments) i noAppointment) u a b)) → d ≡ direct p x y
+      → record {
+        first = record { owned = eqb s 2 && not (eqb (bitAnd o a) 0); managed = eqb s 2 && not (eqb (bitAnd m a) 0) };
+        second = record { owned = eqb s 2 && not (eqb (bitAnd o b) 0); managed = eqb s 2 && not (eqb (bitAnd m b) 0) };
+        pair = eqb s 2 && c;
+        direct = d;
+      }
+      ≡ heldOf p u x y
+  held-by {s} {o} {m} {a} {b} {c} {d} e h k l r covered f = go (eqb s 2) refl
+    where
+      go : (t : Bool) → eqb s 2 ≡ t
+          → record {
+            first = record { owned = t && not (eqb (bitAnd o a) 0); managed = t && not (eqb (bitAnd m a) 0) };
+            second = record { owned = t && not (eqb (bitAnd o b) 0); managed = t && not (eqb (bitAnd m b) 0) };
+            pair = t && c;
+            direct = d;
+          }
+          ≡ heldOf p u x y
+      go true i = held-some (user-of-sort p u (sym e ∙ eqb-true _ _ i)) h k l r covered f
+      go false i = held-none (λ v. eqb-false _ _ i (e ∙ sort-of-user p u v)) f

@@ -109,36 +109,25 @@ impl Policy {
         let sorts = self.sorts;
         let memberships = self.memberships;
         let appointments = self.appointments;
-        let used = 0 < sort_in(&sorts, x);
-        let group = sort_in(&sorts, y) == 1;
-        let direct = used & group & has(row(&memberships, x), y);
-        if sort_in(&sorts, u) != 2 {
-            let nothing = Over {
-                owned: false,
-                managed: false,
-            };
-            return Held {
-                first: nothing,
-                second: nothing,
-                pair: false,
-                direct,
-            };
-        }
         let over_x = climb(&sorts, &memberships, x);
         let over_y = climb(&sorts, &memberships, y);
         let given = given_to(appointments, u, over_x, over_y);
+        let used = 0 < sort_in(&sorts, x);
+        let group = sort_in(&sorts, y) == 1;
+        let direct = used & group & has(row(&memberships, x), y);
+        let user = sort_in(&sorts, u) == 2;
         let first = Over {
-            owned: given.owner & over_x != 0,
-            managed: given.manager & over_x != 0,
+            owned: user & (given.owner & over_x != 0),
+            managed: user & (given.manager & over_x != 0),
         };
         let second = Over {
-            owned: given.owner & over_y != 0,
-            managed: given.manager & over_y != 0,
+            owned: user & (given.owner & over_y != 0),
+            managed: user & (given.manager & over_y != 0),
         };
         Held {
             first,
             second,
-            pair: given.pair,
+            pair: user & given.pair,
             direct,
         }
     }

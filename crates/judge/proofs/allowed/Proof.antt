@@ -9,23 +9,23 @@ use Rattle.judge.proofs.allowed.Statement.{statement}
 use Rattle.judge.proofs.allowed.Tie as tie
 
 -- The checks before have passed.
-passed : (c : tie.Else1) → changes (c .before .before .args .v) ≡ true
+passed : (c : tie.Else1) → changes (c .before .before .args .asked .verdict) ≡ true
 passed c = sym (c .before .changes .ensures) ∙ not-false (c .before .changes .result) (c .if1 .left)
 
 returns : tie.Need-returns
-returns c = stays (c .before .before .args .v) _ (sym (c .before .changes .ensures) ∙ not-true (c .before .changes .result) (c .if1 .taken))
+returns c = λ n. stays (c .before .before .args .asked .verdict) _ (sym (c .before .changes .ensures) ∙ not-true (c .before .changes .result) (c .if1 .taken))
 
 returns-2 : tie.Need-returns-2
 returns-2 c =
     let kind = c .before .before in
     let yes = sym (kind .is-use .ensures) ∙ c .before .if2 .taken in
-    goes-on (kind .before .before .before .args .v) _ (passed (kind .before)) (use-allowed _ _ _ yes (c .used .ensures yes))
+    λ n. goes-on (kind .before .before .before .args .asked .verdict) _ (passed (kind .before)) (use-allowed _ _ _ yes (c .used .ensures yes))
 
 returns-3 : tie.Need-returns-3
 returns-3 c =
-    let kind = c .before .before in
-    goes-on (kind .before .before .before .args .v) _ (passed (kind .before))
-    (c .entitled .ensures (sym (kind .is-use .ensures) ∙ c .before .if2 .left))
+    let kind = c .before .before .before in
+    λ n. goes-on (kind .before .before .before .args .asked .verdict) _ (passed (kind .before))
+    (c .entitled .ensures n (sym (kind .is-use .ensures) ∙ c .before .before .if2 .left))
 
 pub allowed-spec : {M : Type 1} → statement M
 allowed-spec =

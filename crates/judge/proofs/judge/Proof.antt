@@ -8,7 +8,7 @@ use Rattle.rules.specs.declared.Answer.{Answer}
 use Rattle.rules.specs.Judging.{judge, verdictOn, OneAnswer}
 use Rattle.rules.proofs.Bounded.{one-answer}
 use Rattle.judge.specs.Answering.{answered}
-use Rattle.judge.proofs.Ordered.{stages, read-sent, read-asked, judge-changes, judge-keeps}
+use Rattle.judge.proofs.Ordered.{stages, read-sent, read-asked, read-named, judge-changes, judge-keeps}
 use borrow.Author.Needs.{needs}
 use Rattle.judge.proofs.judge.Statement.{statement}
 use Rattle.judge.proofs.judge.Tie as tie
@@ -24,7 +24,7 @@ judged : (c : tie.After-harmless)
     c .harmless .result ≡ verdictOn (s .args .p) (now (s .args .bytes)) (read .read .result .sender) (read .read .result .request)
 judged c =
     let allowed = c .before in
-    stages _ _ (allowed .before .read .ensures) (allowed .allowed .ensures) (c .harmless .ensures)
+    stages _ _ (allowed .before .read .ensures) (allowed .allowed .ensures (read-named _ _ (allowed .before .read .ensures))) (c .harmless .ensures)
 
 returns : tie.Need-returns
 returns c =

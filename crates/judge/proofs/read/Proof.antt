@@ -10,7 +10,8 @@ returns c =
     let named = c .before .before in
     let request = named .before in
     let byte = request .before in
-    read-is _ _ (byte .byte .ensures) (request .request-of .ensures) (c .formed .ensures _ refl (named .named-in .ensures))
+    read-is _ _ (byte .byte .ensures) (request .request-of .ensures) (named .named-in .ensures)
+    (c .formed .ensures _ refl (named .named-in .ensures))
 
 pub read-spec : {M : Type 1} → statement M
 read-spec = tie.close (tie.spec (λ c κs. search needs) (λ c κs. search needs) (λ c κs. search needs) (λ c κs. search needs) returns)

@@ -13,7 +13,7 @@ use Rattle.gains.specs.declared.Gain.{Gain}
 use Rattle.gains.specs.declared.Gain.the-variants.{Nothing}
 use Rattle.gains.specs.Giving.{FirstPermission}
 use Rattle.judge.specs.Telling.{OwnGainOf}
-use Rattle.judge.proofs.Ordered.{stages, read-sent, read-asked, judge-verdict}
+use Rattle.judge.proofs.Ordered.{stages, read-sent, read-asked, read-named, judge-verdict}
 use borrow.Author.Needs.{needs}
 use Rattle.judge.proofs.gaining.own_gain_of.Statement.{statement}
 use Rattle.judge.proofs.gaining.own_gain_of.Tie as tie
@@ -40,7 +40,7 @@ judged : (c : tie.After-harmless)
 judged c =
     let allowed = c .before in
     let read = allowed .before .read .ensures in
-    judge-verdict _ _ (read-sent _ _ read) (read-asked _ _ read) (stages _ _ read (allowed .allowed .ensures) (c .harmless .ensures))
+    judge-verdict _ _ (read-sent _ _ read) (read-asked _ _ read) (stages _ _ read (allowed .allowed .ensures (read-named _ _ read)) (c .harmless .ensures))
 
 returns : tie.Need-returns
 returns c =
