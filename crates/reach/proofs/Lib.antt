@@ -23,3 +23,4 @@ pub mod Unions
 pub mod Posting
 pub mod Meeting
 pub mod Holding
+pub mod Owning

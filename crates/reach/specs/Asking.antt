@@ -22,6 +22,11 @@ use Rattle.reach.specs.Privileges.{owner, manager, administrator, owns, 
 abbrev pub reachOf : List ℕ → List ℕ → Policy
 reachOf sorts memberships = record { sorts = sorts; memberships = memberships; appointments = []; rules = [] }
 
+-- The policy with these three tables, and no rule: what a user owns, manages and administers depends on nothing else.
+abbrev pub tablesOf : List ℕ → List ℕ → List Appointment → Policy
+tablesOf sorts memberships appointments =
+    record { sorts = sorts; memberships = memberships; appointments = appointments; rules = [] }
+
 -- x is under g by these sorts and memberships.
 abbrev pub UnderBy : List ℕ → List ℕ → ℕ → ℕ → Type 0
 UnderBy sorts memberships x g = Under (view (reachOf sorts memberships)) x g

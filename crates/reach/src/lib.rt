@@ -3,6 +3,7 @@
 mod appointments;
 mod climbing;
 mod objects;
+mod orphans;
 mod questions;
 mod rounds;
 mod ruling;
@@ -17,6 +18,7 @@ pub use objects::appointment_at;
 pub use objects::row;
 pub use objects::rule_at;
 pub use objects::sort_in;
+pub use orphans::ownerless;
 pub use sets::has;
 pub use sets::just;
 pub use sets::only_if;

@@ -13,12 +13,12 @@ use crate::Policy;
 use crate::Posts;
 use crate::appointments::covers_pair;
 use crate::appointments::given_to;
-use crate::appointments::owned_from;
 use crate::appointments::partners_of;
 use crate::appointments::posts_of;
 use crate::climbing::climb;
 use crate::objects::row;
 use crate::objects::sort_in;
+use crate::orphans::ownerless;
 use crate::rounds::descend;
 use crate::ruling::covering;
 use crate::ruling::granted_over;
@@ -206,9 +206,6 @@ impl Policy {
         let sorts = self.sorts;
         let memberships = self.memberships;
         let appointments = self.appointments;
-        let m = masks_of(sorts);
-        let from = owned_from(appointments, m.users);
-        let owned = descend(&memberships, m, from);
-        m.objects & !owned != 0
+        ownerless(&sorts, &memberships, appointments)
     }
 }
