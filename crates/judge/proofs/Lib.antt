@@ -4,6 +4,7 @@
 pub mod Naming
 pub mod Sorting
 pub mod Entitling
+pub mod Leaving
 pub mod ByKind
 pub mod Ordered
 pub mod Staging

@@ -178,7 +178,10 @@ fn harmless(p: Policy, u: u8, q: Request, v: Verdict) -> Verdict
         return giving(p, u, q);
     }
     if can_orphan(q) {
-        if orphan(p, q) {
+        let sorts = p.sorts;
+        let memberships = p.memberships;
+        let appointments = p.appointments;
+        if orphan(&sorts, &memberships, appointments, q) {
             return Verdict::Orphan;
         }
     }

@@ -1,12 +1,16 @@
 -- Whether some object in use has no owner is read of the sorts, the memberships and the appointments alone.
 use mathlib.Core.Path.{_≡_, refl, sym, ap, subst, _∙_}
+use mathlib.Core.Bool.{Bool, true, false}
 use Prim.Native.Nat.{ℕ, _<_}
+use lib.ListN.{set}
 use native.Mathlib.Omega.{arith}
 use Rattle.reach.specs.declared.Policy.{Policy}
 use Rattle.reach.specs.declared.Appointment.{Appointment}
-use Rattle.reach.specs.Tables.{sort, stored, appointment, View, view}
+use Rattle.reach.specs.Tests.{_⇒_∥_}
+use Rattle.reach.specs.Tables.{noAppointment, sort, stored, appointment, View, view}
 use Rattle.reach.specs.Reach.{Under}
 use Rattle.reach.specs.Privileges.{Holds, Orphan, orphaned}
+use Rattle.reach.specs.Successors.{withMembers, withAppointments, onTable, removeFrom, taken, appointed, dismissed}
 use Rattle.reach.specs.Asking.{tablesOf}
 use Rattle.reach.proofs.Testing.{decides-as, decides-same, some-map}
 use Rattle.reach.proofs.Frames.{under-same}
@@ -49,3 +53,21 @@ orphaned-by-tables p =
     (orphaned-decides q)
     (some-map (orphan-same (view q) (view p) (λ x. refl) (λ x g. refl) (λ i. refl)))
     (some-map (orphan-same (view p) (view q) (λ x. refl) (λ x g. refl) (λ i. refl))))
+
+-- The same after an object is taken out of a group, and after an appointment is taken away: each changes one table.
+pub orphaned-taken : (p : Policy) (x g : ℕ)
+    → orphaned (taken p x g)
+    ≡ orphaned (tablesOf (p .sorts) (onTable x g ⇒ removeFrom (p .memberships) x g ∥ p .memberships) (p .appointments))
+unfolding taken
+orphaned-taken p x g = go (onTable x g)
+  where
+    go : (t : Bool)
+        → orphaned (t ⇒ withMembers p (removeFrom (p .memberships) x g) ∥ p)
+        ≡ orphaned (tablesOf (p .sorts) (t ⇒ removeFrom (p .memberships) x g ∥ p .memberships) (p .appointments))
+    go true = orphaned-by-tables (withMembers p (removeFrom (p .memberships) x g))
+    go false = orphaned-by-tables p
+
+pub orphaned-dismissed : (p : Policy) (i : ℕ)
+    → orphaned (dismissed p i) ≡ orphaned (tablesOf (p .sorts) (p .memberships) (set (p .appointments) i noAppointment))
+unfolding appointed
+orphaned-dismissed p i = orphaned-by-tables (withAppointments p (set (p .appointments) i noAppointment))

@@ -1,5 +1,5 @@
 -- What a kind cannot fail is not asked: of those that can give something the last check, and of the others checks 10 and 11.
-use mathlib.Core.Path.{_≡_, sym, _∙_}
+use mathlib.Core.Path.{_≡_, refl, sym, _∙_}
 use mathlib.Core.Bool.{true, false, not}
 use borrow.Author.Tests.{not-true, not-false}
 use Rattle.judge.specs.Answering.{changes}
@@ -24,17 +24,17 @@ returns-2 c =
 
 returns-3 : tie.Need-returns-3
 returns-3 c =
-    let gain = c .before .before .before .before .before in
+    let gain = c .before .before .before .before .before .before .before .before .before .before in
     goes-on (gain .before .before .before .args .v) _ (passed (gain .before))
-    (orphan-harmless _ _ _ (sym (gain .can-gain .ensures) ∙ c .before .before .before .before .if2 .left)
-    (sym (c .before .orphan .ensures) ∙ c .if4 .taken))
+    (orphan-harmless _ _ _ (sym (gain .can-gain .ensures) ∙ c .before .before .before .before .before .before .before .before .before .if2 .left)
+    (sym (c .before .orphan .ensures _ (record { sorts = refl; memberships = refl; appointments = refl })) ∙ c .if4 .taken))
 
 returns-4 : tie.Need-returns-4
 returns-4 c =
-    let gain = c .before .before .before .before .before in
+    let gain = c .before .before .before .before .before .before .before .before .before .before in
     goes-on (gain .before .before .before .args .v) _ (passed (gain .before))
-    (orphan-harmless _ _ _ (sym (gain .can-gain .ensures) ∙ c .before .before .before .before .if2 .left)
-    (sym (c .before .orphan .ensures) ∙ c .if4 .left))
+    (orphan-harmless _ _ _ (sym (gain .can-gain .ensures) ∙ c .before .before .before .before .before .before .before .before .before .if2 .left)
+    (sym (c .before .orphan .ensures _ (record { sorts = refl; memberships = refl; appointments = refl })) ∙ c .if4 .left))
 
 returns-5 : tie.Need-returns-5
 returns-5 c =

@@ -1,41 +1,44 @@
--- Check 12, kind by kind: TAKE and DISMISS are asked of the policy after.
-use Rattle.rules.specs.Doing.{after}
+-- Check 12, kind by kind: TAKE and DISMISS are asked of the tables after.
+use mathlib.Core.Path.{_≡_, refl, sym, ap, _∙_}
 use Rattle.rules.specs.Refusals.{orphan}
+use Rattle.judge.proofs.Leaving.{take-leaves, dismiss-leaves}
 use borrow.Author.Needs.{needs}
 use Rattle.judge.proofs.orphans.orphan.Statement.{statement}
 use Rattle.judge.proofs.orphans.orphan.Tie as tie
 
 returns : tie.Need-returns
 unfolding orphan
-returns c = rw (c .enum-told .given .1)
+returns c = λ p k. rw (c .enum-told .given .1)
 
 returns-2 : tie.Need-returns-2
 unfolding orphan
-returns-2 c = rw (c .enum-told2 .given .1)
+returns-2 c = λ p k. rw (c .enum-told2 .given .1)
 
 returns-3 : tie.Need-returns-3
-unfolding orphan after
-returns-3 c = rw (c .before .before .before .q .given .1, c .orphaned .ensures, c .before .taken .ensures)
+returns-3 c =
+    let known = c .before .before .before .before .before .q .given .1 in
+    λ p k. take-leaves p k _ _ (c .before .before .taken-from .ensures) (c .ownerless .ensures) ∙ ap (orphan p) (sym known)
 
 returns-4 : tie.Need-returns-4
 unfolding orphan
-returns-4 c = rw (c .enum-told3 .given .1)
+returns-4 c = λ p k. rw (c .enum-told3 .given .1)
 
 returns-5 : tie.Need-returns-5
-unfolding orphan after
-returns-5 c = rw (c .before .before .before .q2 .given .1, c .orphaned2 .ensures, c .before .dismissed .ensures)
+returns-5 c =
+    let known = c .before .before .before .q2 .given .1 in
+    λ p k. dismiss-leaves p k _ (c .before .dismissed-at .ensures) (c .ownerless2 .ensures) ∙ ap (orphan p) (sym known)
 
 returns-6 : tie.Need-returns-6
 unfolding orphan
-returns-6 c = rw (c .enum-told4 .given .1)
+returns-6 c = λ p k. rw (c .enum-told4 .given .1)
 
 returns-7 : tie.Need-returns-7
 unfolding orphan
-returns-7 c = rw (c .enum-told5 .given .1)
+returns-7 c = λ p k. rw (c .enum-told5 .given .1)
 
 returns-8 : tie.Need-returns-8
 unfolding orphan
-returns-8 c = rw (c .enum-told6 .given .1)
+returns-8 c = λ p k. rw (c .enum-told6 .given .1)
 
 pub orphan-spec : {M : Type 1} → statement M
 orphan-spec =
