@@ -4,7 +4,7 @@ use mathlib.Core.Path.{_≡_}
 use Prim.Native.Nat.{_-_, _≤_}
 use Rattle.reach.specs.Privileges.{owner, manager}
 use Rattle.reach.proofs.Unions.{Union, union-none, union-add, union-end}
-use Rattle.reach.proofs.Posting.{Posted, appointed-over}
+use Rattle.reach.proofs.Posting.{Posted, of-kind, appointed-over}
 use borrow.Author.Needs.{needs}
 use Rattle.reach.proofs.appointments.posts_of.Statement.{statement}
 use Rattle.reach.proofs.appointments.posts_of.Tie as tie
@@ -28,7 +28,7 @@ array-copy-out-a-of-2 c = c .before .before .loop-test .taken
 loop-again : tie.Need-loop-again Inv-loop μ-loop
 loop-again c =
     let l = c .before .before .before .before .before .loop in
-    (search needs, union-add _ (l .inv .1) (c .before .before .a-of .ensures), union-add _ (l .inv .2) (c .a-of2 .ensures))
+    (search needs, union-add _ (l .inv .1) (of-kind (c .before .before .a-of .ensures) (omega arith)), union-add _ (l .inv .2) (of-kind (c .a-of2 .ensures) (omega arith)))
 
 returns : tie.Need-returns Inv-loop μ-loop
 returns c =
