@@ -1,26 +1,21 @@
 -- The tests of the privileges decide them, for every policy. Each law has the shape of its definition.
-use mathlib.Core.Path.{_≡_, refl, sym, _∙_, subst}
-use mathlib.Core.Bool.{Bool, true, false, not, _&&_, true≢false, and-eq-true-iff}
+use mathlib.Core.Path.{_≡_, refl, sym, _∙_}
+use mathlib.Core.Bool.{Bool, true, false, _&&_, true≢false, and-eq-true-iff}
 use mathlib.Core.Logic.{_⊎_, inl, inr, ⊎-elim}
-use Prim.Native.Nat.{ℕ, _-_, _^_, _≤_, _<_}
-use native.Mathlib.Nat.{le-refl}
+use Prim.Native.Nat.{ℕ, _<_}
 use native.Mathlib.Omega.{arith}
-use lib.Bits.{bitAnd}
-use lib.Dec.{eqb}
 use lib.ListN.{getD}
 use Rattle.reach.specs.declared.Policy.{Policy}
 use Rattle.reach.specs.declared.Appointment.{Appointment}
 use Rattle.reach.specs.declared.Place.the-variants.{At, Nothing}
-use Rattle.reach.specs.Words.{bit, has, SetOf}
+use Rattle.reach.specs.Words.{bit, has}
 use Rattle.reach.specs.Tests.{some, Some, Decides, _⇒_∥_, lowest}
 use Rattle.reach.specs.Tables.{counted, sort, stored, appointment, standing, rule, view}
-use Rattle.reach.specs.Reach.{InUse, User, Target, inUse, isGroup, isUser, direct}
+use Rattle.reach.specs.Reach.{User, Target, inUse, isGroup, isUser, direct}
 use Rattle.reach.specs.Privileges.{HoldsBy, Holds, AdministersBy, Administers, PermitsBy, Permitted, Orphan, administrator, holdsBy}
 use Rattle.reach.specs.Privileges.{holds, administersBy, administers, permitsBy, askable, permitted, permitting, orphaned}
-use Rattle.reach.proofs.Testing.{decides-as, decides-same, decides-and, decides-not, decides-some, decides-eqb, decides-ltb}
-use Rattle.reach.proofs.Testing.{decides-true, some-map, lowest-none, lowest-found, LowestAt, lowest-cases, fails, some-found}
-use Rattle.reach.proofs.WordSets.{set-mask, set-not, decides-nonempty}
-use Rattle.reach.proofs.Places.{OwnedAt}
+use Rattle.reach.proofs.Testing.{decides-as, decides-and, decides-not, decides-some, decides-eqb, decides-ltb}
+use Rattle.reach.proofs.Testing.{decides-true, lowest-none, lowest-found, LowestAt, lowest-cases, fails, some-found}
 use Rattle.reach.proofs.Chains.{in-use-below, decides-in-use, under-decides}
 
 -- What decides that a place is not empty: the kind that counts.
@@ -114,44 +109,7 @@ orphaned-decides p =
     })
     (λ w. record { place = w .place; low = w .low; at = (w .at .object, λ s. w .at .nobody (s .place) (s .at)) })
 
--- ---- Two answers of the code, from what it has found out
-
-module _ (p : Policy) {objects : ℕ} (o : SetOf objects (InUse (view p))) where
-  outside : (n : ℕ) → n ≤ 32 → (x : ℕ) → Orphan (view p) x → (bit objects x ≡ 1) × ((x < 64) × (Some n (λ i. OwnedAt p i x) → ⊥))
-  outside n l x f = (
-    o .all x (f .object),
-    (
-      in-use-below p x (f .object),
-      λ s.
-          f .nobody (appointment p (s .place) .holder)
-          (record { user = s .at .0; by = record { place = s .place; low = omega (arith, s .low, l); at = s .at .1 } }),
-    ),
-  )
-
-  -- A user who owns x does so by the place of some appointment that he holds.
-  pub orphan-decides : {owned : ℕ} → SetOf owned (λ x. Some 32 (λ i. OwnedAt p i x))
-      → not (eqb (bitAnd objects (2 ^ 64 - 1 - owned)) 0) ≡ orphaned p
-  orphan-decides w =
-      decides-same
-      _
-      _
-      (decides-as
-      (decides-nonempty (set-mask objects (set-not w)))
-      (some-map
-      (λ x f.
-      record {
-        object = o .only x (f .0);
-        nobody = λ u h.
-            f .1 .1
-            (some-map
-            (λ i b. (
-              subst (User (view p)) (sym (b .is-holder)) (h .user),
-              record { is-kind = b .is-kind; is-holder = refl; covers = b .covers },
-            ))
-            (h .by));
-      }))
-      (some-map (outside 32 (le-refl 32))))
-      (orphaned-decides p)
+-- ---- The place of a rule that permits
 
 module _ (p : Policy) (u k x : ℕ) where
   pub permitting-not : askable p u k x ≡ false → Nothing ≡ permitting p u k x

@@ -14,7 +14,6 @@ pub mod Founding
 pub mod Carrying
 pub mod Appointing
 pub mod Chains
-pub mod Places
 pub mod Deciding
 pub mod Gathering
 pub mod Upward
@@ -24,3 +23,4 @@ pub mod Posting
 pub mod Meeting
 pub mod Holding
 pub mod Owning
+pub mod Bereaving

@@ -10,18 +10,17 @@ use lib.ListN.{getD}
 use Rattle.reach.specs.declared.Policy.{Policy}
 use Rattle.reach.specs.declared.Posts.{Posts}
 use Rattle.reach.specs.declared.Place.{Place}
-use Rattle.reach.specs.Words.{bit, has, SetOf, Meet}
+use Rattle.reach.specs.Words.{bit, SetOf, Meet}
 use Rattle.reach.specs.Tests.{lowestOr, lowest, Some, Decides}
 use Rattle.reach.specs.Tables.{sortIn, sort, noAppointment, noRule, appointment, rule, view}
 use Rattle.reach.specs.Reach.{InUse, Group, User, Target, Under, under}
 use Rattle.reach.specs.Privileges.{owner, Holds, Administers, Permitted, permitsBy, askable, administers, permitting}
-use Rattle.reach.specs.Asking.{UnderBy, AppointedOver, PostsIn, HeldOver, PostsOf, CoversPair, HasB, OwnersA, coveredBy, HasT}
+use Rattle.reach.specs.Asking.{UnderBy, AppointedOver, PostsIn, HeldOver, PostsOf, CoversPair, HasB, coveredBy, HasT}
 use Rattle.reach.proofs.Testing.{decides-as, decides-eqb, decides-not, decides-same, some-map}
 use Rattle.reach.proofs.WordSets.{set-as, set-none, set-mask, has-is, decides-nonempty}
 use Rattle.reach.proofs.Reaching.{under-upper}
 use Rattle.reach.proofs.Chains.{in-use-below, under-decides}
 use Rattle.reach.proofs.Upward.{under-of, under-by}
-use Rattle.reach.proofs.Places.{OwnedAt}
 use Rattle.reach.proofs.Deciding.{administers-decides}
 
 module _ (p : Policy) where
@@ -293,38 +292,3 @@ module _ (p : Policy) where
               }),
           o .target,
         ))
-
-  -- ---- Owners
-
-  pub owned-below : {users from r : ℕ} → SetOf users (User (view p))
-      → SetOf from (λ a. Some 32 (λ i. (a < 64) × OwnersA (getD (p .appointments) i noAppointment) users a))
-      → SetOf r (λ x. Some 64 (λ g. (bit from g ≡ 1) × Under (view p) x g)) → SetOf r (λ x. Some 32 (λ i. OwnedAt p i x))
-  unfolding appointment
-  owned-below users h d =
-      set-as
-      d
-      (λ x w.
-      some-map
-      (λ i v. (
-        users .only _ (v .1 .is-user),
-        record { is-kind = v .1 .is-kind; is-holder = refl; covers = subst (Under (view p) x) (sym (v .1 .is-a)) (w .at .1) },
-      ))
-      (h .only (w .place) (w .at .0)))
-      (λ x w.
-      let c = w .at .1 .covers in
-      record {
-        place = getD (p .appointments) (w .place) noAppointment .a;
-        low = top-below c;
-        at = (
-          h .all _
-              (record {
-                place = w .place;
-                low = w .low;
-                at = (
-                  top-below c,
-                  record { is-kind = w .at .1 .is-kind; is-user = users .all _ (w .at .0); is-a = refl },
-                );
-              }),
-          c,
-        );
-      })

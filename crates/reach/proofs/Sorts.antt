@@ -34,6 +34,9 @@ counted-cases n = go (leb n 3) refl
 pub counted-le : (n : ℕ) → counted n ≤ 3
 counted-le n = ⊎-elim (λ e. omega (arith, e)) (λ w. omega (arith, w .0, w .1)) (counted-cases n)
 
+pub counted-unknown : (n : ℕ) → 3 < n → counted n ≡ 0
+counted-unknown n l = ⊎-elim (λ e. e) (λ w. absurd (omega (arith, w .1, l))) (counted-cases n)
+
 -- The sort of an object is read of the table of sorts alone.
 pub sort-is : (p : Policy) (x : ℕ) → sortIn (p .sorts) x ≡ sort p x
 unfolding sort

@@ -56,10 +56,10 @@ module _ (s m : List ℕ) where
   unfolding sort
   in-use-not x e i = omega (arith, e, i)
 
-  group-of-byte : (g : ℕ) → g < 64 → getD s g 0 ≡ 1 → Group (view (reachOf s m)) g
+  pub group-of-byte : (g : ℕ) → g < 64 → getD s g 0 ≡ 1 → Group (view (reachOf s m)) g
   group-of-byte g l e = decides-sort (reachOf s m) g 1 l (omega arith) (omega arith) .sound (eq-eqb _ _ e)
 
-  byte-of-group : (g : ℕ) → Group (view (reachOf s m)) g → getD s g 0 ≡ 1
+  pub byte-of-group : (g : ℕ) → Group (view (reachOf s m)) g → getD s g 0 ≡ 1
   byte-of-group g e =
       eqb-true _ _
       (decides-sort (reachOf s m) g 1 (in-use-below (reachOf s m) g (group-in-use (view (reachOf s m)) g e)) (omega arith) (omega arith)

@@ -2,7 +2,8 @@
 use mathlib.Core.Path.{_≡_}
 use mathlib.Core.Bool.{Bool, true, _&&_}
 use mathlib.Core.List.{List, []}
-use Prim.Native.Nat.{ℕ, _<_}
+use mathlib.Core.Logic.{_⊎_}
+use Prim.Native.Nat.{ℕ, _^_, _<_}
 use lib.ListN.{getD}
 use Rattle.reach.specs.declared.Policy.{Policy}
 use Rattle.reach.specs.declared.Appointment.{Appointment}
@@ -10,10 +11,10 @@ use Rattle.reach.specs.declared.AccessRule.{AccessRule}
 use Rattle.reach.specs.declared.Posts.{Posts}
 use Rattle.reach.specs.declared.Over.{Over}
 use Rattle.reach.specs.declared.Held.{Held}
-use Rattle.reach.specs.Words.{bit, has, SetOf}
+use Rattle.reach.specs.Words.{bit, has, SetOf, Meet}
 use Rattle.reach.specs.Tests.{Some}
-use Rattle.reach.specs.Tables.{noAppointment, View, view}
-use Rattle.reach.specs.Reach.{User, Under, direct}
+use Rattle.reach.specs.Tables.{sortIn, noAppointment, View, view}
+use Rattle.reach.specs.Reach.{InUse, Group, User, Under, direct}
 use Rattle.reach.specs.Privileges.{owner, manager, administrator, owns, manages, administers}
 
 -- ---- Reach
@@ -76,11 +77,31 @@ pub record HasB (w : Appointment) (u first b : ℕ) : Type 0 where
   pub in-a : bit first (w .a) ≡ 1
   pub is-b : w .b ≡ b
 
--- The number a of an object is the A of an owner's appointment that one of these users holds.
-pub record OwnersA (w : Appointment) (users a : ℕ) : Type 0 where
+-- The number a of an object is the A of an owner's appointment whose holder is a user by these sorts.
+pub record OwnersA (sorts : List ℕ) (w : Appointment) (a : ℕ) : Type 0 where
   pub is-kind : w .kind ≡ owner
-  pub is-user : bit users (w .holder) ≡ 1
+  pub is-user : sortIn sorts (w .holder) ≡ 2
   pub is-a : w .a ≡ a
+
+-- ---- Owners
+
+-- x is under something of the set, by these sorts and memberships.
+abbrev pub UnderSomeBy : List ℕ → List ℕ → ℕ → ℕ → Type 0
+UnderSomeBy sorts memberships set x = Some 64 (λ g. (bit set g ≡ 1) × UnderBy sorts memberships x g)
+
+-- What is found out of the objects below n: `groups` are groups under something of the set, and `left` are objects in use that are not in
+-- the set. Each object in use below n is left, or it is under something of the set, and among the groups if it is one.
+pub record Looking (sorts memberships : List ℕ) (set n groups left : ℕ) : Type 0 where
+  pub groups-word : groups < 2 ^ 64
+  pub left-word : left < 2 ^ 64
+  pub owned : (g : ℕ) → bit groups g ≡ 1 → Group (view (reachOf sorts memberships)) g × UnderSomeBy sorts memberships set g
+  pub waiting : (x : ℕ) → bit left x ≡ 1 → InUse (view (reachOf sorts memberships)) x × (bit set x ≡ 1 → ⊥)
+  pub told : (x : ℕ) → x < n → InUse (view (reachOf sorts memberships)) x
+      → (bit left x ≡ 1) ⊎ (UnderSomeBy sorts memberships set x × (Group (view (reachOf sorts memberships)) x → bit groups x ≡ 1))
+
+-- The row of no object that is left has one of the groups.
+abbrev pub Closed : List ℕ → ℕ → ℕ → Type 0
+Closed rows groups left = (x : ℕ) → bit left x ≡ 1 → Meet (getD rows x 0) groups → ⊥
 
 -- ---- Rules
 

@@ -8,6 +8,7 @@ ghost use Rattle.reach.specs.Privileges.{owner, manager};
 ghost use Rattle.reach.specs.Asking.{HasA, AppointedOver, PostsIn, CoversPair, HasB, OwnersA};
 use crate::Appointment;
 use crate::Posts;
+use crate::objects::sort_in;
 use crate::sets::has;
 use crate::sets::just;
 
@@ -125,27 +126,27 @@ pub fn partners_of(appointments: [Appointment; 32], u: u8, first: u64) -> u64
     set
 }
 
-// The A of this appointment, if it is an owner's and one of these users holds it.
-fn owners_a(w: Appointment, users: u64) -> u64
-    ensures { λ r. ⌜ SetOf r (λ a. (a < 64) × OwnersA w users a) ⌝ }
+// The A of this appointment, if it is an owner's and its holder is a user. The kind is looked at first: most places are empty.
+fn owners_a(sorts: &[u8; 64], w: Appointment) -> u64
+    ensures { λ r. ⌜ SetOf r (λ a. (a < 64) × OwnersA (now (sorts .entry)) w a) ⌝ }
 {
     if w.kind != 1 {
         return 0;
     }
-    if !has(users, w.holder) {
+    if sort_in(sorts, w.holder) != 2 {
         return 0;
     }
     just(w.a)
 }
 
-// The As of all owners' appointments that one of these users holds.
-pub fn owned_from(appointments: [Appointment; 32], users: u64) -> u64
-    ensures { λ r. ⌜ SetOf r (λ a. Some 32 (λ i. (a < 64) × OwnersA (getD appointments i noAppointment) users a)) ⌝ }
+// The As of all owners' appointments whose holder is a user.
+pub fn owners_from(sorts: &[u8; 64], appointments: [Appointment; 32]) -> u64
+    ensures { λ r. ⌜ SetOf r (λ a. Some 32 (λ i. (a < 64) × OwnersA (now (sorts .entry)) (getD appointments i noAppointment) a)) ⌝ }
 {
     let mut set: u64 = 0;
     let mut i: usize = 0;
     while i < 32 {
-        set |= owners_a(appointments[i], users);
+        set |= owners_a(sorts, appointments[i]);
         i += 1;
     }
     set

@@ -1,5 +1,4 @@
 -- Check 12, kind by kind: TAKE and DISMISS are asked of the tables after.
-use mathlib.Core.Path.{_≡_, refl, sym, ap, _∙_}
 use Rattle.rules.specs.Refusals.{orphan}
 use Rattle.judge.proofs.Leaving.{take-leaves, dismiss-leaves}
 use borrow.Author.Needs.{needs}
@@ -17,7 +16,7 @@ returns-2 c = λ p k. rw (c .enum-told2 .given .1)
 returns-3 : tie.Need-returns-3
 returns-3 c =
     let known = c .before .before .before .before .before .q .given .1 in
-    λ p k. take-leaves p k _ _ (c .before .before .taken-from .ensures) (c .ownerless .ensures) ∙ ap (orphan p) (sym known)
+    λ p k. rw (known, take-leaves p k _ _, c .ownerless .ensures, c .before .before .taken-from .ensures)
 
 returns-4 : tie.Need-returns-4
 unfolding orphan
@@ -26,7 +25,7 @@ returns-4 c = λ p k. rw (c .enum-told3 .given .1)
 returns-5 : tie.Need-returns-5
 returns-5 c =
     let known = c .before .before .before .q2 .given .1 in
-    λ p k. dismiss-leaves p k _ (c .before .dismissed-at .ensures) (c .ownerless2 .ensures) ∙ ap (orphan p) (sym known)
+    λ p k. rw (known, dismiss-leaves p k _, c .ownerless2 .ensures, c .before .dismissed-at .ensures)
 
 returns-6 : tie.Need-returns-6
 unfolding orphan

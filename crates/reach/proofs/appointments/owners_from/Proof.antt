@@ -6,15 +6,15 @@ use Rattle.reach.specs.Tables.{noAppointment}
 use Rattle.reach.specs.Asking.{OwnersA}
 use Rattle.reach.proofs.Unions.{Union, union-none, union-add, union-end}
 use borrow.Author.Needs.{needs}
-use Rattle.reach.proofs.appointments.owned_from.Statement.{statement}
-use Rattle.reach.proofs.appointments.owned_from.Tie as tie
+use Rattle.reach.proofs.appointments.owners_from.Statement.{statement}
+use Rattle.reach.proofs.appointments.owners_from.Tie as tie
 
 abbrev Inv-loop : tie.InvT-loop
-Inv-loop users appointments set₀ i₀ set i =
-    (i ≤ 32) × Union (λ j a. (a < 64) × OwnersA (getD appointments j noAppointment) users a) i set
+Inv-loop sorts appointments set₀ i₀ set i =
+    (i ≤ 32) × Union (λ j a. (a < 64) × OwnersA sorts (getD appointments j noAppointment) a) i set
 
 abbrev μ-loop : tie.MeasureT-loop
-μ-loop users appointments set₀ i₀ set i = 32 - i
+μ-loop sorts appointments set₀ i₀ set i = 32 - i
 
 loop-holds : tie.Need-loop-holds Inv-loop μ-loop
 loop-holds c = (search needs, union-none _)
@@ -28,8 +28,8 @@ loop-again c = (search needs, union-add _ (c .before .before .before .loop .inv 
 returns : tie.Need-returns Inv-loop μ-loop
 returns c = union-end _ 32 (c .before .loop .inv .1) (omega (arith, c .loop-test .left, c .before .loop .inv .0))
 
-pub owned-from-spec : {M : Type 1} → statement M
-owned-from-spec =
+pub owners-from-spec : {M : Type 1} → statement M
+owners-from-spec =
     tie.close
     (tie.spec
     Inv-loop
