@@ -13,7 +13,7 @@ use Rattle.reach.specs.Tests.{Decides}
 use Rattle.reach.specs.Tables.{Sized, View, view}
 use Rattle.reach.specs.Reach.{InUse, Group, User}
 use Rattle.reach.specs.Changes.{viewPut, viewRuled}
-use Rattle.reach.proofs.Testing.{decides-as, decides-same, fails}
+use Rattle.reach.proofs.Testing.{decides-as, decides-same, decides-none, fails}
 use Rattle.reach.proofs.Chains.{in-use-below}
 use Rattle.reach.proofs.Past.{put-past, appointed-past, ruled-past}
 use Rattle.reach.proofs.AsRead.{view-put, view-appointed, view-granted}
@@ -140,6 +140,14 @@ module _ (p : Policy) (z : Sized p) (u : ℕ) where
   pub appoint-gains-past : (i : ℕ) (w : Appointment) → 32 ≤ i → false ≡ ownGain p u (appointing i w)
   unfolding ownGain after
   appoint-gains-past i w l = stays-gives p (after p (appointing i w)) u (appointed-past p z i w l)
+
+  -- Who appoints another gains nothing.
+  pub appoint-other : (i : ℕ) (w : Appointment) → (w .holder ≡ u → ⊥) → ownGain p u (appointing i w) ≡ false
+  appoint-other i w n =
+      elim (decLt i 32) [
+        | no l ↦ sym (appoint-gains-past i w (omega (arith, l)))
+        | yes l ↦ sym (appoint-own-gain i w false l (decides-none (λ k. n (k .own))))
+      ]
 
   pub grant-own-gain : (i w s o : ℕ) (t : Bool) → i < 64 → User (view p) u → Decides t (LacksRuled (view p) u (newRule w s o))
       → t ≡ ownGain p u (Grant i w s o)

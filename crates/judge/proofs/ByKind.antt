@@ -6,6 +6,8 @@ use Rattle.reach.specs.declared.Policy.{Policy}
 use Rattle.reach.specs.declared.Place.{Place}
 use Rattle.reach.specs.declared.Place.the-variants.{At, Nothing}
 use Rattle.reach.specs.Tests.{_⇒_∥_}
+use borrow.Author.Tests.{eqb-false}
+use Rattle.reach.specs.Tables.{Sized}
 use Rattle.reach.specs.Privileges.{permitted, permitting}
 use Rattle.reach.proofs.Deciding.{permitted-at, permitted-nothing}
 use Rattle.rules.specs.declared.Request.{Request}
@@ -14,6 +16,7 @@ use Rattle.rules.specs.declared.Verdict.the-variants.{Done, NoAuthority}
 use Rattle.rules.specs.Authority.{may}
 use Rattle.rules.specs.Refusals.{alreadySo, noAuthority, ownGain, handOver, orphan}
 use Rattle.rules.specs.Judging.{doneBy, done}
+use Rattle.gains.proofs.Outright.{appoint-other}
 use Rattle.judge.specs.Kind.{isUse, canGain, canOrphan}
 use Rattle.judge.specs.Using.{usedBy}
 
@@ -45,31 +48,31 @@ use-not-so p (Withdraw i) e = absurd (false≢true e)
 use-not-so p (Use x k) e = refl
 
 -- What can give a holding leaves nothing without an owner.
-pub gain-no-orphan : (p : Policy) (q : Request) → canGain q ≡ true → orphan p q ≡ false
+pub gain-no-orphan : (p : Policy) (u : ℕ) (q : Request) → canGain u q ≡ true → orphan p q ≡ false
 unfolding orphan
-gain-no-orphan p (Make i s g) e = refl
-gain-no-orphan p (Put x g) e = refl
-gain-no-orphan p (Take x g) e = absurd (false≢true e)
-gain-no-orphan p (Appoint i k h a b) e = refl
-gain-no-orphan p (Dismiss i) e = absurd (false≢true e)
-gain-no-orphan p (Grant i v t o) e = refl
-gain-no-orphan p (Withdraw i) e = refl
-gain-no-orphan p (Use x k) e = refl
+gain-no-orphan p u (Make i s g) e = refl
+gain-no-orphan p u (Put x g) e = refl
+gain-no-orphan p u (Take x g) e = absurd (false≢true e)
+gain-no-orphan p u (Appoint i k h a b) e = refl
+gain-no-orphan p u (Dismiss i) e = absurd (false≢true e)
+gain-no-orphan p u (Grant i v t o) e = refl
+gain-no-orphan p u (Withdraw i) e = refl
+gain-no-orphan p u (Use x k) e = refl
 
 module _ (p : Policy) (u : ℕ) where
-  pub no-own-gain : (q : Request) → canGain q ≡ false → ownGain p u q ≡ false
+  pub no-own-gain : Sized p → (q : Request) → canGain u q ≡ false → ownGain p u q ≡ false
   unfolding ownGain
-  no-own-gain (Make i s g) e = refl
-  no-own-gain (Put x g) e = absurd (true≢false e)
-  no-own-gain (Take x g) e = refl
-  no-own-gain (Appoint i k h a b) e = absurd (true≢false e)
-  no-own-gain (Dismiss i) e = refl
-  no-own-gain (Grant i v t o) e = absurd (true≢false e)
-  no-own-gain (Withdraw i) e = refl
-  no-own-gain (Use x k) e = refl
+  no-own-gain z (Make i s g) e = refl
+  no-own-gain z (Put x g) e = absurd (true≢false e)
+  no-own-gain z (Take x g) e = refl
+  no-own-gain z (Appoint i k h a b) e = appoint-other p z u i (record { kind = k; holder = h; a = a; b = b }) (eqb-false _ _ e)
+  no-own-gain z (Dismiss i) e = refl
+  no-own-gain z (Grant i v t o) e = absurd (true≢false e)
+  no-own-gain z (Withdraw i) e = refl
+  no-own-gain z (Use x k) e = refl
 
   -- What cannot give its sender a holding hands nothing over either.
-  pub no-hand-over : (q : Request) → canGain q ≡ false → handOver p u q ≡ false
+  pub no-hand-over : (q : Request) → canGain u q ≡ false → handOver p u q ≡ false
   unfolding handOver
   no-hand-over (Make i s g) e = refl
   no-hand-over (Put x g) e = absurd (true≢false e)

@@ -5,6 +5,7 @@ use mathlib.Core.List.{List}
 use Prim.Native.Nat.{ℕ}
 use Rattle.reach.specs.declared.Policy.{Policy}
 use Rattle.reach.specs.Tests.{_⇒_∥_}
+use Rattle.reach.specs.Tables.{Sized}
 use Rattle.rules.specs.declared.Request.{Request}
 use Rattle.rules.specs.declared.Verdict.{Verdict}
 use Rattle.rules.specs.declared.Verdict.the-variants.{Done, AlreadySo, NoAuthority, Orphan}
@@ -31,12 +32,12 @@ goes-on v n e f = rw (e, f)
 
 module _ (p : Policy) (u : ℕ) (q : Request) where
   -- What can give something leaves nothing without an owner.
-  pub gain-harmless : {w : Verdict} → canGain q ≡ true → w ≡ givenBy p u q → w ≡ harmlessBy p u q
-  gain-harmless e f = let n : orphan p q ≡ false = gain-no-orphan p q e in rw (f, n)
+  pub gain-harmless : {w : Verdict} → canGain u q ≡ true → w ≡ givenBy p u q → w ≡ harmlessBy p u q
+  gain-harmless e f = let n : orphan p q ≡ false = gain-no-orphan p u q e in rw (f, n)
 
   -- What cannot give anything is asked the last check alone.
-  pub orphan-harmless : {t : Bool} → canGain q ≡ false → orphan p q ≡ t → (t ⇒ Orphan ∥ Done) ≡ harmlessBy p u q
-  orphan-harmless e f = rw (no-own-gain p u q e, no-hand-over p u q e, f)
+  pub orphan-harmless : {t : Bool} → Sized p → canGain u q ≡ false → orphan p q ≡ t → (t ⇒ Orphan ∥ Done) ≡ harmlessBy p u q
+  orphan-harmless z e f = rw (no-own-gain p u z q e, no-hand-over p u q e, f)
 
   -- A USE is nothing that can be so already.
   pub use-allowed : {w : Verdict} → isUse q ≡ true → w ≡ (noAuthority p u q ⇒ NoAuthority ∥ done p u q) → w ≡ allowedBy p u q

@@ -1,5 +1,7 @@
 -- Which checks a request of each kind can fail, by its kind alone.
 use mathlib.Core.Bool.{Bool, true, false}
+use Prim.Native.Nat.{ℕ}
+use lib.Dec.{eqb}
 use Rattle.rules.specs.declared.Request.{Request}
 use Rattle.rules.specs.declared.Request.the-variants.{Make, Put, Take, Appoint, Dismiss, Grant, Withdraw, Use}
 
@@ -13,16 +15,16 @@ isUse (Grant i u t o) = false
 isUse (Withdraw i) = false
 isUse (Use x k) = true
 
--- A request of this kind can give its sender a holding, or hand something over (checks 10 and 11).
-abbrev pub canGain : Request → Bool
-canGain (Make i s g) = false
-canGain (Put x g) = true
-canGain (Take x g) = false
-canGain (Appoint i k h a b) = true
-canGain (Dismiss i) = false
-canGain (Grant i u t o) = true
-canGain (Withdraw i) = false
-canGain (Use x k) = false
+-- A request of this kind can give its sender u a holding, or hand something over (checks 10 and 11). Who appoints another gains nothing.
+abbrev pub canGain : ℕ → Request → Bool
+canGain u (Make i s g) = false
+canGain u (Put x g) = true
+canGain u (Take x g) = false
+canGain u (Appoint i k h a b) = eqb h u
+canGain u (Dismiss i) = false
+canGain u (Grant i v t o) = true
+canGain u (Withdraw i) = false
+canGain u (Use x k) = false
 
 -- It can leave an object without an owner (check 12).
 abbrev pub canOrphan : Request → Bool

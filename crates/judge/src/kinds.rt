@@ -20,15 +20,15 @@ pub fn is_use(q: Request) -> bool
     }
 }
 
-// Whether it can give its sender a holding, or hand something over (checks 10 and 11).
-pub fn can_gain(q: Request) -> bool
-    ensures { λ r. ⌜ r ≡ canGain q ⌝ }
+// Whether it can give its sender a holding, or hand something over (checks 10 and 11). Who appoints another gains nothing.
+pub fn can_gain(u: u8, q: Request) -> bool
+    ensures { λ r. ⌜ r ≡ canGain u q ⌝ }
 {
     match q {
         Request::Make { .. } => false,
         Request::Put { .. } => true,
         Request::Take { .. } => false,
-        Request::Appoint { .. } => true,
+        Request::Appoint { holder, .. } => holder == u,
         Request::Dismiss { .. } => false,
         Request::Grant { .. } => true,
         Request::Withdraw { .. } => false,

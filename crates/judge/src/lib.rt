@@ -174,7 +174,7 @@ fn harmless(p: Policy, u: u8, q: Request, v: Verdict) -> Verdict
     if !changes(v) {
         return v;
     }
-    if can_gain(q) {
+    if can_gain(u, q) {
         return giving(p, u, q);
     }
     if can_orphan(q) {

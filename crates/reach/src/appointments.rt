@@ -74,6 +74,25 @@ pub struct Given {
     pub pair: bool,
 }
 
+// What this appointment gives u. The holder is looked at once: most appointments are another's.
+fn given_by(w: Appointment, u: u8, first: u64, second: u64) -> Given
+    ensures { λ r. ⌜ SetOf (r .owner) (λ a. (a < 64) × HasA w owner u a) × SetOf (r .manager) (λ a. (a < 64) × HasA w manager u a) ×
+        Decides (r .pair) (CoversPair w u first second) ⌝ }
+{
+    if w.holder != u {
+        return Given {
+            owner: 0,
+            manager: 0,
+            pair: false,
+        };
+    }
+    Given {
+        owner: a_of(w, 1, u),
+        manager: a_of(w, 2, u),
+        pair: covers(w, u, first, second),
+    }
+}
+
 // The posts of u, and whether one of his administrator's appointments covers the pair of sets: the table is gone through once.
 pub fn given_to(appointments: [Appointment; 32], u: u8, first: u64, second: u64) -> Given
     ensures { λ r. ⌜ SetOf (r .owner) (AppointedOver appointments owner u) × SetOf (r .manager) (AppointedOver appointments manager u) ×
@@ -85,9 +104,10 @@ pub fn given_to(appointments: [Appointment; 32], u: u8, first: u64, second: u64)
     let mut i: usize = 0;
     while i < 32 {
         let w = appointments[i];
-        owner |= a_of(w, 1, u);
-        manager |= a_of(w, 2, u);
-        pair |= covers(w, u, first, second);
+        let given = given_by(w, u, first, second);
+        owner |= given.owner;
+        manager |= given.manager;
+        pair |= given.pair;
         i += 1;
     }
     Given {

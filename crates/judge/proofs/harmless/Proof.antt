@@ -2,12 +2,24 @@
 use mathlib.Core.Path.{_≡_, refl, sym, _∙_}
 use mathlib.Core.Bool.{true, false, not}
 use borrow.Author.Tests.{not-true, not-false}
+use Rattle.reach.specs.Tables.{Sized}
+use Rattle.reach.proofs.Lists.{length-mapped}
 use Rattle.judge.specs.Answering.{changes}
 use Rattle.judge.proofs.ByKind.{no-orphan}
 use Rattle.judge.proofs.Staging.{stays, goes-on, gain-harmless, orphan-harmless}
 use borrow.Author.Needs.{needs}
 use Rattle.judge.proofs.harmless.Statement.{statement}
 use Rattle.judge.proofs.harmless.Tie as tie
+
+-- The tables of the policy have their sizes.
+sized : (s : tie.Start) → Sized (s .args .p)
+sized s =
+    record {
+      sorts = search needs;
+      memberships = search needs;
+      appointments = search (needs, length-mapped);
+      rules = search (needs, length-mapped);
+    }
 
 -- The checks before have passed.
 passed : (c : tie.Else1) → changes (c .before .before .args .v) ≡ true
@@ -26,21 +38,21 @@ returns-3 : tie.Need-returns-3
 returns-3 c =
     let gain = c .before .before .before .before .before .before .before .before .before .before in
     goes-on (gain .before .before .before .args .v) _ (passed (gain .before))
-    (orphan-harmless _ _ _ (sym (gain .can-gain .ensures) ∙ c .before .before .before .before .before .before .before .before .before .if2 .left)
+    (orphan-harmless _ _ _ (sized (gain .before .before .before)) (sym (gain .can-gain .ensures) ∙ c .before .before .before .before .before .before .before .before .before .if2 .left)
     (sym (c .before .orphan .ensures _ (record { sorts = refl; memberships = refl; appointments = refl })) ∙ c .if4 .taken))
 
 returns-4 : tie.Need-returns-4
 returns-4 c =
     let gain = c .before .before .before .before .before .before .before .before .before .before in
     goes-on (gain .before .before .before .args .v) _ (passed (gain .before))
-    (orphan-harmless _ _ _ (sym (gain .can-gain .ensures) ∙ c .before .before .before .before .before .before .before .before .before .if2 .left)
+    (orphan-harmless _ _ _ (sized (gain .before .before .before)) (sym (gain .can-gain .ensures) ∙ c .before .before .before .before .before .before .before .before .before .if2 .left)
     (sym (c .before .orphan .ensures _ (record { sorts = refl; memberships = refl; appointments = refl })) ∙ c .if4 .left))
 
 returns-5 : tie.Need-returns-5
 returns-5 c =
     let gain = c .before .before .before in
     goes-on (gain .before .before .before .args .v) _ (passed (gain .before))
-    (orphan-harmless _ _ _ (sym (gain .can-gain .ensures) ∙ c .before .before .if2 .left)
+    (orphan-harmless _ _ _ (sized (gain .before .before .before)) (sym (gain .can-gain .ensures) ∙ c .before .before .if2 .left)
     (no-orphan _ _ (sym (c .before .can-orphan .ensures) ∙ c .if3 .left)))
 
 pub harmless-spec : {M : Type 1} → statement M

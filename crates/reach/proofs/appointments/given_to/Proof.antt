@@ -32,13 +32,12 @@ array-copy-out-w c = c .loop-test .taken
 
 loop-again : tie.Need-loop-again Inv-loop μ-loop
 loop-again c =
-    let second = c .before in
-    let first = second .before in
-    let l = first .before .before .before .loop in (
+    let given = c .before .before .before in
+    let l = given .before .before .before .loop in (
       search needs,
-      union-add _ (l .inv .1) (of-kind (first .a-of .ensures) (omega arith)),
-      union-add _ (l .inv .2) (of-kind (second .a-of2 .ensures) (omega arith)),
-      decides-some-next _ _ (l .inv .3) (c .covers .ensures),
+      union-add _ (l .inv .1) (given .given-by .ensures .0),
+      union-add _ (l .inv .2) (given .given-by .ensures .1),
+      decides-some-next _ _ (l .inv .3) (given .given-by .ensures .2),
     )
 
 returns : tie.Need-returns Inv-loop μ-loop
@@ -59,8 +58,6 @@ given-to-spec =
     loop-holds
     (λ c. search needs)
     array-copy-out-w
-    (λ c κs. search needs)
-    (λ c κs. search needs)
     (λ c κs. search needs)
     (λ c. search needs)
     (λ c. search needs)
