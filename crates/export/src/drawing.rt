@@ -27,7 +27,7 @@ fn put_four(out: &mut [u8], at: usize, first: u8, second: u8, third: u8, fourth:
     out[at + 3] = fourth;
 }
 
-// The eight bytes of a number from a place on.
+// The eight bytes of a number from a place on, which its caller has found to be there.
 pub fn put_word(out: &mut [u8], at: usize, word: u64)
     requires { ⌜ at + 8 ≤ length (now out) ⌝ }
     ensures { λ _. ⌜ now (out .exit) ≡ sets (now (out .entry)) at (bytesOf 8 word) ⌝ }

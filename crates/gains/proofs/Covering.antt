@@ -14,7 +14,7 @@ use Rattle.reach.specs.Tables.{noRule, view}
 use Rattle.reach.specs.Reach.{User, Target, Under}
 use Rattle.reach.specs.Privileges.{PermitsBy, Permitted}
 use Rattle.reach.proofs.Bits.{bit-two, bit-clash}
-use Rattle.reach.proofs.WordSets.{decides-has}
+use Rattle.reach.proofs.WordSets.{set-at, decides-has}
 use Rattle.reach.proofs.AsRead.{rule-is}
 use Rattle.reach.proofs.Reaching.{under-trans}
 use Rattle.gains.specs.Lacking.{Above, UnderPut, LacksPermit, LacksRuled}
@@ -29,16 +29,17 @@ module _ (p : Policy) {u over : ℕ} (user : User (view p) u) (o : Above p u ove
 
   -- Where PUT gives a permission a rule opens: one whose U comes to be above him, or one that covers him and whose T is above the group and
   -- not above the object. A rule that did cover him, with a T that x was under, permitted it before.
-  pub lacks-permit-opens : {x g object group more : ℕ} {under : Bool} → Above p x object → Above p g group → under ≡ has over x
-      → SetOf more (λ t. (under ≡ true) × (bit (bitAnd group (2 ^ 64 - 1 - over)) t ≡ 1)) → LacksPermit (view p) u x g
-      → Some 64 (λ i. Opens (getD (p .rules) i noRule) over more (bitAnd group (2 ^ 64 - 1 - object)))
-  lacks-permit-opens {x} {g} {object} {group} {more} a s e m l =
+  pub lacks-permit-opens : {x g object group more opened : ℕ} {under : Bool} → Above p x object → Above p g group → under ≡ has over x
+      → SetOf more (λ t. (under ≡ true) × (bit (bitAnd group (2 ^ 64 - 1 - over)) t ≡ 1))
+      → opened ≡ bitAnd group (2 ^ 64 - 1 - object) → LacksPermit (view p) u x g
+      → Some 64 (λ i. Opens (getD (p .rules) i noRule) over more opened)
+  lacks-permit-opens {x} {g} {object} {group} {more} {opened} a s e m w l =
       record {
         place = l .place;
         low = l .low;
         at =
             subst
-            (λ (r : AccessRule). Opens r over more (bitAnd group (2 ^ 64 - 1 - object)))
+            (λ (r : AccessRule). Opens r over more opened)
             (rule-is p (l .place))
             (record {
               used = l .used;
@@ -67,15 +68,15 @@ module _ (p : Policy) {u over : ℕ} (user : User (view p) u) (o : Above p u ove
           }))
 
       newly-above : Under (view p) u (view p .rule (l .place) .users) → UnderPut (view p) x g (l .gear) (view p .rule (l .place) .targets)
-          → bit (bitAnd group (2 ^ 64 - 1 - object)) (view p .rule (l .place) .targets) ≡ 1
+          → bit opened (view p .rule (l .place) .targets) ≡ 1
       newly-above c (inl d) = absurd (had c d)
-      newly-above c (inr d) = opened-set p a s .all _ (d .1, λ q. had c (under-trans (d .0) q))
+      newly-above c (inr d) = set-at w (opened-set p a s) .all _ (d .1, λ q. had c (under-trans (d .0) q))
 
   -- GRANT gives nothing if each operation of the new rule is one that the rules that cover him have over what its T is under.
-  pub none-lacks-ruled : {r : AccessRule} {above set : ℕ} → Above p (r .targets) above
-      → SetOf set (λ k. Some 64 (λ i. GrantsOver (getD (p .rules) i noRule) over above k)) → r .operations < 2 ^ 64
-      → bitAnd (r .operations) (2 ^ 64 - 1 - set) ≡ 0 → LacksRuled (view p) u r → ⊥
-  none-lacks-ruled {r} {above} {set} a s w e l =
+  pub none-lacks-ruled : {r : AccessRule} {above users targets set : ℕ} → Above p (r .targets) above
+      → SetOf set (λ k. Some 64 (λ i. GrantsOver (getD (p .rules) i noRule) users targets k)) → users ≡ over → targets ≡ above
+      → r .operations < 2 ^ 64 → bitAnd (r .operations) (2 ^ 64 - 1 - set) ≡ 0 → LacksRuled (view p) u r → ⊥
+  none-lacks-ruled {r} {users = users} {targets = targets} {set = set} a s f h w e l =
       ⊎-elim
       (λ z.
       news-no set (r .operations) (s .word) w e
@@ -87,7 +88,7 @@ module _ (p : Policy) {u over : ℕ} (user : User (view p) u) (o : Above p u ove
       (λ b. l .lacks (granted (s .only _ b)))
       (bit-two set (l .operation))
     where
-      granted : Some 64 (λ i. GrantsOver (getD (p .rules) i noRule) over above (l .operation)) → Permitted (view p) u (l .operation) (l .gear)
+      granted : Some 64 (λ i. GrantsOver (getD (p .rules) i noRule) users targets (l .operation)) → Permitted (view p) u (l .operation) (l .gear)
       granted g =
           let i = rule-is p (g .place) in
           let v = g .at in
@@ -99,11 +100,11 @@ module _ (p : Policy) {u over : ℕ} (user : User (view p) u) (o : Above p u ove
                 record {
                   used = ap (λ (q : AccessRule). q .used) i ∙ v .used;
                   operation = ap (λ (q : AccessRule). bit (q .operations) (l .operation)) i ∙ v .operation;
-                  covers-user = subst (λ (q : AccessRule). Under (view p) u (q .users)) (sym i) (o .only _ (v .in-u));
+                  covers-user = subst (λ (q : AccessRule). Under (view p) u (q .users)) (sym i) (set-at f o .only _ (v .in-u));
                   covers-target =
                       subst
                       (λ (q : AccessRule). Under (view p) (l .gear) (q .targets))
                       (sym i)
-                      (under-trans (l .covers) (a .only _ (v .in-t)));
+                      (under-trans (l .covers) (set-at h a .only _ (v .in-t)));
                 };
           })

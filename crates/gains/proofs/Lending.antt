@@ -6,6 +6,7 @@ use Prim.Native.Nat.{ℕ, _-_, _^_}
 use lib.Bits.{bitAnd}
 use lib.Dec.{eqb}
 use lib.ListN.{getD}
+use borrow.Author.Tests.{eq-eqb}
 use Rattle.reach.specs.declared.Policy.{Policy}
 use Rattle.reach.specs.declared.Appointment.{Appointment}
 use Rattle.reach.specs.Words.{SetOf}
@@ -15,7 +16,7 @@ use Rattle.reach.specs.Reach.{InUse, itself}
 use Rattle.reach.specs.Privileges.{Holds, Administers}
 use Rattle.reach.specs.Asking.{UnderBy, HeldOver, CoversPair}
 use Rattle.reach.proofs.Testing.{decides-as, decides-at, decides-not}
-use Rattle.reach.proofs.WordSets.{set-as, set-bits, set-mask, set-not, set-empty, set-lowest}
+use Rattle.reach.proofs.WordSets.{set-as, set-at, set-bits, set-mask, set-not, set-empty, set-lowest}
 use Rattle.reach.proofs.Reaching.{under-lower, under-upper}
 use Rattle.reach.proofs.Chains.{in-use-below}
 use Rattle.reach.proofs.AsRead.{appointment-is}
@@ -56,15 +57,16 @@ pub above-some : (p : Policy) {x r : ℕ} → Above p x r → (r ≡ 0 → ⊥) 
 above-some p s n = under-lower (set-lowest s n .1)
 
 -- No one appointment of his covers the pair exactly if he does not administer it.
-pub pair-lacked : (p : Policy) {sorts memberships : List ℕ} {l : List Appointment} {u a b first second : ℕ} {t : Bool}
-    → Heard p sorts memberships l u → Above p a first → Above p b second
-    → Decides t (Some 32 (λ i. CoversPair (getD l i noAppointment) u first second)) → Decides (not t) (Administers (view p) u a b → ⊥)
-pair-lacked p {u = u} {a = a} {b = b} {first = first} {second = second} {t = t} k o s d =
+pub pair-lacked : (p : Policy) {sorts memberships : List ℕ} {l : List Appointment} {u a b first second one other : ℕ}
+    {t : Bool} → Heard p sorts memberships l u → Above p a first → Above p b second
+    → Decides t (Some 32 (λ i. CoversPair (getD l i noAppointment) u one other)) → one ≡ first → other ≡ second
+    → Decides (not t) (Administers (view p) u a b → ⊥)
+pair-lacked p {u = u} {a = a} {b = b} {one = one} {other = other} {t = t} k o s d e f =
     decides-not _
     (decides-at
-    (pair-covered p (k .user) o t s
+    (pair-covered p (k .user) (set-at e o) t (set-at f s)
     (subst
-    (λ (w : List Appointment). Decides t (Some 32 (λ i. CoversPair (getD w i noAppointment) u first second)))
+    (λ (w : List Appointment). Decides t (Some 32 (λ i. CoversPair (getD w i noAppointment) u one other)))
     (sym (k .appointments))
     d))
     (administers-decides p u a b))
@@ -77,6 +79,11 @@ held-lacked p {held = held} {above = above} h s =
     (decides-empty (set-mask held (set-bits above (s .word))))
     (λ n o. n (holds-meet p h s o))
     (λ n m. n (meet-holds p h s m))
+
+-- The same, of the word itself: that it is 0, and that it is not.
+pub held-none : (p : Policy) {kind u x held above : ℕ} → SetOf held (HeldOver (view p) kind u) → Above p x above
+    → bitAnd held above ≡ 0 → Holds (view p) kind u x → ⊥
+held-none p h s e = held-lacked p h s .sound (eq-eqb _ _ e)
 
 pub held-had : (p : Policy) {kind u x held above : ℕ} → SetOf held (HeldOver (view p) kind u) → Above p x above
     → (bitAnd held above ≡ 0 → ⊥) → Holds (view p) kind u x

@@ -4,6 +4,7 @@ pub mod PutHeld
 pub mod PutPair
 pub mod PutOver
 pub mod PutGives
+pub mod PutAgain
 pub mod PutNamed
 pub mod Appointed
 pub mod Granted

@@ -87,11 +87,9 @@ module _ (p : Policy) {appointments : List Appointment} (read : p .appointments 
   lacks-user w = ⊎-elim (λ l. l .has .user) (λ l. l .has .user) w
 
   -- Some one of the set is a user, exactly if some user holds the group and not the object.
-  pub some-lacks : {l : List ℕ} {t : Bool} → p .sorts ≡ l
-      → Decides t
-      (Some 64 (λ u. (bit (bitOr (bitAnd a (2 ^ 64 - 1 - b)) (bitAnd c (2 ^ 64 - 1 - d))) u ≡ 1) × (getD l u 0 ≡ 2)))
-      → Decides t (SomeLacks (view p) x g)
-  some-lacks {l} e m =
+  pub some-lacks : {l : List ℕ} {set : ℕ} {t : Bool} → p .sorts ≡ l → Decides t (Some 64 (λ u. (bit set u ≡ 1) × (getD l u 0 ≡ 2)))
+      → set ≡ bitOr (bitAnd a (2 ^ 64 - 1 - b)) (bitAnd c (2 ^ 64 - 1 - d)) → Decides t (SomeLacks (view p) x g)
+  some-lacks {l} e m f =
       decides-as
       m
       (λ w.
@@ -103,9 +101,9 @@ module _ (p : Policy) {appointments : List Appointment} (read : p .appointments 
             ⊎-elim
             (λ q. inl (lacks-of p read 1 o s h k user q))
             (λ q. inr (lacks-of p read 2 o s i j user q))
-            (or-bit _ _ (w .place) (w .at .0));
+            (or-bit _ _ (w .place) (ap (λ (n : ℕ). bit n (w .place)) (sym f) ∙ w .at .0));
       })
-      (some-map (λ u q. (some-set (lacks-user q) q, user-byte u (lacks-user q))))
+      (some-map (λ u q. (ap (λ (n : ℕ). bit n u) f ∙ some-set (lacks-user q) q, user-byte u (lacks-user q))))
     where
       byte-user : (s : ℕ) (w : Some 64 (λ u. (bit s u ≡ 1) × (getD l u 0 ≡ 2))) → User (view p) (w .place)
       byte-user s w =

@@ -11,14 +11,14 @@ use lib.ListN.{getD}
 use borrow.Author.Tests.{eqb-true}
 use Rattle.reach.specs.declared.Policy.{Policy}
 use Rattle.reach.specs.declared.AccessRule.{AccessRule}
-use Rattle.reach.specs.Words.{bit, SetOf, TableOf, Meet}
+use Rattle.reach.specs.Words.{bit, has, SetOf, TableOf, Meet}
 use Rattle.reach.specs.Tests.{Some, Decides}
 use Rattle.reach.specs.Tables.{noRule, view}
 use Rattle.reach.specs.Reach.{User, Target, Under}
 use Rattle.reach.specs.Privileges.{Permitted}
 use Rattle.reach.specs.Asking.{UnderBy, HasT}
 use Rattle.reach.proofs.Bits.{bit-none}
-use Rattle.reach.proofs.Testing.{some-map, decides-and, decides-none}
+use Rattle.reach.proofs.Testing.{some-map, decides-at, decides-and, decides-none}
 use Rattle.reach.proofs.WordSets.{set-bits, set-mask, set-empty, decides-nonempty}
 use Rattle.reach.proofs.Reaching.{under-upper}
 use Rattle.reach.proofs.Chains.{in-use-below}
@@ -32,6 +32,14 @@ use Rattle.gains.specs.Lending.{Ruled}
 use Rattle.gains.specs.Searching.{found, Joined, FirstFresh, Fresh}
 
 -- ---- Words
+
+-- A test that is equal to one that decides.
+pub decides-equal : {s t : Bool} {P : Type 0} → Decides t P → s ≡ t → Decides s P
+decides-equal d e = decides-at e d
+
+-- The test of a word and a number is that of the ones asked for, where they are these.
+pub has-of : (s x : ℕ) {t : Bool} {r y : ℕ} → t ≡ has r y → r ≡ s → y ≡ x → t ≡ has s x
+has-of s x {y = y} e f g = e ∙ ap (λ (n : ℕ). has n y) f ∙ ap (has s) g
 
 pub decides-empty : {P : ℕ → Type 0} {s : ℕ} → SetOf s P → Decides (eqb s 0) (Some 64 P → ⊥)
 decides-empty {P} {s} h =
@@ -60,6 +68,11 @@ found-decides Nothing f g h = decides-none (λ q. let w = h q in f (w .0) (w .1)
 -- t is the T of a rule in use that has the operation, and whose U is among the users.
 abbrev pub GrantedAt : List AccessRule → ℕ → ℕ → ℕ → Type 0
 GrantedAt rules users k t = Some 64 (λ i. (t < 64) × HasT (getD rules i noRule) k users t)
+
+-- What is granted to these users is what is granted to those asked for, where they are the same.
+pub granted-of : (rules : List AccessRule) {users over : ℕ} {had : List ℕ} → TableOf 8 had (GrantedAt rules users) → users ≡ over
+    → TableOf 8 had (GrantedAt rules over)
+granted-of rules {had = had} h e = subst (λ (s : ℕ). TableOf 8 had (GrantedAt rules s)) e h
 
 module _ (p : Policy) {u over : ℕ} (user : User (view p) u) (o : Above p u over) {had : List ℕ}
     (h : TableOf 8 had (GrantedAt (p .rules) over)) where

@@ -30,8 +30,7 @@ pub record LacksHeld (v : View) (kind u x g : ℕ) : Type 0 where
 abbrev pub Grows : ℕ → ℕ → ℕ → Type 0
 Grows held object group = Meet held group × (Meet held object → ⊥)
 
--- The appointment at place i makes him an administrator, and one of its sides is above g and not above x, and he lacks the pair of x and
--- the other side.
+-- The one side is above g and not above x, and he lacks the pair of x and the other side, which is in use. So with A above, and with B.
 pub record LacksA (v : View) (u x g a b : ℕ) : Type 0 where
   pub above : Under v g a
   pub not-above : Under v x a → ⊥
@@ -44,6 +43,7 @@ pub record LacksB (v : View) (u x g a b : ℕ) : Type 0 where
   pub other : InUse v a
   pub lacks : Administers v u a x → ⊥
 
+-- The appointment at place i makes him an administrator, and one of its sides is so.
 pub record LacksPairBy (v : View) (u x g i : ℕ) : Type 0 where
   pub is-kind : v .appointment i .kind ≡ administrator
   pub is-holder : v .appointment i .holder ≡ u

@@ -11,32 +11,50 @@ ghost use Rattle.gains.specs.Lacking.{HolderOf, SomeLacks, Above};
 use reach::Appointment;
 use reach::has;
 use reach::just;
+use reach::only_if;
 use rules::Verdict;
 
-// The holder of this appointment, if it is of that kind and its A is in the set.
-fn holder_of(w: Appointment, kind: u8, over: u64) -> u64
-    ensures { λ r. ⌜ SetOf r (λ u. (u < 64) × HolderOf w kind over u) ⌝ }
-{
-    if w.kind != kind {
-        return 0;
-    }
-    if !has(over, w.a) {
-        return 0;
-    }
-    just(w.holder)
+// Who holds something above the object, and who holds something above the group, as sets.
+struct Who {
+    object: u64,
+    group: u64,
 }
 
-// All who hold an appointment of that kind whose A is in the set.
-fn holders(appointments: [Appointment; 32], kind: u8, over: u64) -> u64
-    ensures { λ r. ⌜ SetOf r (λ u. Some 32 (λ i. (u < 64) × HolderOf (getD appointments i noAppointment) kind over u)) ⌝ }
+// The holder of this appointment, if it is of that kind, in each set that its A is above.
+fn holder_of(w: Appointment, kind: u8, object: u64, group: u64) -> Who
+    ensures { λ r. ⌜ SetOf (r .object) (λ u. (u < 64) × HolderOf w kind object u) × SetOf (r .group) (λ u. (u < 64) × HolderOf w kind group u) ⌝ }
 {
-    let mut set: u64 = 0;
+    if w.kind != kind {
+        return Who {
+            object: 0,
+            group: 0,
+        };
+    }
+    let holder = just(w.holder);
+    Who {
+        object: only_if(has(object, w.a), holder),
+        group: only_if(has(group, w.a), holder),
+    }
+}
+
+// All who hold an appointment of that kind whose A is in the one set, and in the other: the table is gone through once for both.
+fn holders(appointments: [Appointment; 32], kind: u8, object: u64, group: u64) -> Who
+    ensures { λ r. ⌜ SetOf (r .object) (λ u. Some 32 (λ i. (u < 64) × HolderOf (getD appointments i noAppointment) kind object u)) ×
+        SetOf (r .group) (λ u. Some 32 (λ i. (u < 64) × HolderOf (getD appointments i noAppointment) kind group u)) ⌝ }
+{
+    let mut had: u64 = 0;
+    let mut got: u64 = 0;
     let mut i: usize = 0;
     while i < 32 {
-        set |= holder_of(appointments[i], kind, over);
+        let more = holder_of(appointments[i], kind, object, group);
+        had |= more.object;
+        got |= more.group;
         i += 1;
     }
-    set
+    Who {
+        object: had,
+        group: got,
+    }
 }
 
 // Whether some one of these is a user.
@@ -64,9 +82,12 @@ pub fn hands_over(
     ensures { λ r. ⌜ ((p : Policy) (x g : ℕ) → p .sorts ≡ now (sorts .entry) → p .appointments ≡ appointments →
         Above p x object → Above p g group → Decides r (SomeLacks (view p) x g)) ⌝ }
 {
-    let owners = holders(appointments, 1, group) & !holders(appointments, 1, object);
-    let managers = holders(appointments, 2, group) & !holders(appointments, 2, object);
-    some_user(sorts, owners | managers)
+    let owners = holders(appointments, 1, object, group);
+    let managers = holders(appointments, 2, object, group);
+    some_user(
+        sorts,
+        (owners.group & !owners.object) | (managers.group & !managers.object),
+    )
 }
 
 // The verdict where there is no own gain: hand-over, if there is one, and else done.

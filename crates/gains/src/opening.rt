@@ -40,7 +40,7 @@ pub fn rules_open(rules: [AccessRule; 64], users: u64, more: u64, opened: u64) -
 }
 
 // The permission that the search finds: one that u, who is under `over`, has once x is in g, and lacks before. Unless he is under x himself,
-// the rules that cover him stay the same.
+// and not under all that g is under, the rules that cover him stay the same.
 pub fn put_permission<'a>(
     sorts: &'a [u8; 64],
     memberships: &'a [u64; 64],
@@ -54,6 +54,9 @@ pub fn put_permission<'a>(
 {
     let had = granted(rules, over);
     if !has(over, x) {
+        return first_fresh(sorts, memberships, had, had, x, group);
+    }
+    if over | group == over {
         return first_fresh(sorts, memberships, had, had, x, group);
     }
     let got = granted(rules, over | group);

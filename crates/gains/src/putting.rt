@@ -129,9 +129,9 @@ fn posts_grow(posts: Posts, object: u64, group: u64) -> bool
     fresh(posts.manager, posts.manager, object, group)
 }
 
-// Checks 10 and 11 of a PUT. Its sender gains exactly if he holds the group and not the object in one of the two ways, or a pair comes, or a
-// permission is found; and it hands over exactly if he does not own the object, and some user holds the group and not the object. Who is no
-// user gains nothing and owns nothing.
+// Checks 10 and 11 of a PUT. Where the object is under the group already, the PUT gives nothing. Else its sender gains exactly if he holds the
+// group and not the object in one of the two ways, or a pair comes, or a permission is found; and it hands over exactly if he does not
+// own the object, and some user holds the group and not the object. Who is no user gains nothing and owns nothing.
 pub fn put_gives(p: Policy, u: u8, x: u8, g: u8) -> Verdict
     ensures { λ r. ⌜ r ≡ givenBy p u (Put x g) ⌝ }
 {
@@ -149,6 +149,9 @@ pub fn put_gives(p: Policy, u: u8, x: u8, g: u8) -> Verdict
     let sender = sort_in(&sorts, u);
     if sender != 2 {
         return handed(hands_over(&sorts, appointments, object, group));
+    }
+    if has(object, g) {
+        return Verdict::Done;
     }
     let posts = posts_of(appointments, u);
     if posts_grow(posts, object, group) {

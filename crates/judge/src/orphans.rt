@@ -15,14 +15,12 @@ use rules::Request;
 fn taken_from(mut memberships: [u64; 64], x: u8, g: u8) -> [u64; 64]
     ensures { λ r. ⌜ r ≡ (onTable x g ⇒ removeFrom memberships x g ∥ memberships) ⌝ }
 {
-    if x >= 64 {
-        return memberships;
+    if x < 64 {
+        if g < 64 {
+            let i = x as usize;
+            memberships[i] = memberships[i] & !(1u64 << g);
+        }
     }
-    if g >= 64 {
-        return memberships;
-    }
-    let i = x as usize;
-    memberships[i] = memberships[i] & !(1u64 << g);
     memberships
 }
 
@@ -31,15 +29,14 @@ fn dismissed_at(mut appointments: [Appointment; 32], i: u8) -> [Appointment; 32]
     ensures { λ r. ⌜ r ≡ set appointments i noAppointment ⌝ }
 {
     let n = i as usize;
-    if n >= 32 {
-        return appointments;
+    if n < 32 {
+        appointments[n] = Appointment {
+            kind: 0,
+            holder: 0,
+            a: 0,
+            b: 0,
+        };
     }
-    appointments[n] = Appointment {
-        kind: 0,
-        holder: 0,
-        a: 0,
-        b: 0,
-    };
     appointments
 }
 

@@ -52,14 +52,14 @@ module _ (first : Policy) (b out₀ : Bytes) where
     pub index-low : index ≤ at
     pub within : at ≤ length b
 
-  pub reporting-start : Reporting out₀ first 0 0 0
-  reporting-start = record {
+  pub reporting-start : {index : ℕ} → index ≡ 0 → Reporting out₀ first 0 index 0
+  reporting-start e = record {
     so-far = [];
-    count = refl;
+    count = sym e;
     wrote = wrote-as (sym (lines-none 0)) (wrote-none out₀ 0);
     to-come = refl;
     policy-to-come = refl;
-    index-low = zero-le;
+    index-low = omega (arith, e);
     within = zero-le;
   }
 
@@ -106,13 +106,14 @@ module _ (first : Policy) (b out₀ : Bytes) where
           within = omega (arith, found .within);
         }
 
-    pub reporting-torn : {out′ : Bytes} {r : ℕ} → stepAt b at ≡ Torn → Wrote out n (line index 1 255) out′ r
+    pub reporting-torn : {out′ : Bytes} {r code cite : ℕ} → stepAt b at ≡ Torn
+        → Wrote out n (line index code cite) out′ r → code ≡ 1 → cite ≡ 255
         → ReportInto first b out₀ out′ (record { written = r; policy = p })
-    reporting-torn e w =
+    reporting-torn e w f g =
         whole
         (s .so-far ++ (tornPlace ∷ []))
         (ap (λ (l : List (ℕ × ℕ)). s .so-far ++ l) (sym (answers-of-torn p b at e)) ∙ s .to-come)
-        (next-line 1 255 w)
+        (next-line 1 255 (rw (f, g) at w))
         (records-of-torn b at e)
 
     pub reporting-end : stepAt b at ≡ End → ReportInto first b out₀ out (record { written = n; policy = p })
@@ -132,10 +133,10 @@ printed-founding e k = rw e at (k .text)
 -- ---- The limit on the input
 
 -- An input past the limit.
-pub printed-too-long : (b : Bytes) {out out′ : Bytes} {r : ℕ} → 65536 < length b → Wrote out 0 tooLong out′ r
-    → Printed out (output b) out′ r
+pub printed-too-long : (b : Bytes) {out out′ text : Bytes} {r : ℕ} → 65536 < length b → Wrote out 0 text out′ r
+    → text ≡ tooLong → Printed out (output b) out′ r
 unfolding output
-printed-too-long b h w = rw (lt-ltb 65536 (length b) h) (printed-of-wrote w)
+printed-too-long b h w e = rw (lt-ltb 65536 (length b) h) (printed-of-wrote (wrote-as e w))
 
 -- An input within it.
 pub printed-report : (b : Bytes) {out out′ : Bytes} {r : ℕ} → length b ≤ 65536 → Printed out (report b) out′ r

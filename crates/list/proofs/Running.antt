@@ -11,6 +11,7 @@ use lib.ListN.{length, drop, set, getD, length-append, length-map, length-drop, 
 use lib.Seq.{drop-cons, set-append-seam}
 use borrow.Author.Tests.{le-leb, lt-leb}
 use Rattle.reach.specs.declared.Policy.{Policy}
+use Rattle.reach.specs.Tests.{_⇒_∥_}
 use Rattle.rules.specs.declared.Answer.{Answer}
 use Rattle.rules.specs.Judging.{codeOf, citedOf, judge, answers}
 use Rattle.rules.proofs.Table.{answers-none, answers-next}
@@ -105,20 +106,20 @@ module _ (b ends codes₀ cited₀ : Bytes) (first : Policy) where
 
   module _ {codes cited : Bytes} {p : Policy} {start i : ℕ} (s : Running codes cited p start i) (low : i < length ends) where
     -- What the next request is judged on, p′, is what the judge handed back.
-    pub running-step : {p′ : Policy} (a : Answer) (code cite : ℕ) → a ≡ judge p (part b start (getD ends i 0))
+    pub running-step : {p′ : Policy} {start′ i′ : ℕ} (a : Answer) (code cite : ℕ) → a ≡ judge p (part b start (getD ends i 0))
         → code ≡ codeOf (a .verdict) → cite ≡ citedOf (a .verdict)
-        → p′ ≡ a .policy
-        → Running (set codes i code) (set cited i cite) p′ (getD ends i 0) (i + 1)
+        → p′ ≡ a .policy → start′ ≡ getD ends i 0 → i′ ≡ i + 1
+        → Running (set codes i code) (set cited i cite) p′ start′ i′
     unfolding parts run
-    running-step a code cite e f g h =
+    running-step a code cite e f g h k next =
         let to-come : parts b start (drop i ends) ≡ part b start (getD ends i 0) ∷ parts b (getD ends i 0) (drop (suc i) ends) =
         ap (parts b start) (drop-cons ends i 0 low) in
         record {
-          within = omega arith;
+          within = omega (arith, next);
           codes-room = s .codes-room;
           cited-room = s .cited-room;
           so-far = s .so-far ++ ((code, cite) ∷ []);
-          count = simp (length-append, s .count);
+          count = simp (length-append, s .count, next);
           codes-filled =
               filled-next (codesOf (s .so-far)) codes₀ code (s .codes-filled) (length-map (s .so-far) _ ∙ s .count)
               (omega (arith, s .codes-room))
@@ -127,19 +128,28 @@ module _ (b ends codes₀ cited₀ : Bytes) (first : Policy) where
               filled-next (citesOf (s .so-far)) cited₀ cite (s .cited-filled) (length-map (s .so-far) _ ∙ s .count)
               (omega (arith, s .cited-room))
               ∙ ap (λ (l : Bytes). over l cited₀) (sym (map-append _ (s .so-far) ((code, cite) ∷ [])));
-          policy-to-come = rw (add-one, h, e) (ap (run p) (sym to-come) ∙ s .policy-to-come);
+          policy-to-come = rw (next, add-one, k, h, e) (ap (run p) (sym to-come) ∙ s .policy-to-come);
           answers-to-come =
-              rw (add-one, f, g, h, e, append-assoc)
+              rw (next, add-one, k, f, g, h, e, append-assoc)
               (ap (λ (l : List (ℕ × ℕ)). s .so-far ++ l)
               (sym (answers-next p (part b start (getD ends i 0)) (parts b (getD ends i 0) (drop (suc i) ends))))
               ∙ ap (λ (l : List Bytes). s .so-far ++ answers p l) (sym to-come)
               ∙ s .answers-to-come);
         }
 
--- Equal starts run alike.
-pub run-as : {p q : Policy} {list : List Bytes} {codes cited codes′ cited′ : Bytes} {r : Outcome} → p ≡ q
-    → RunInto p list codes cited codes′ cited′ r → RunInto q list codes cited codes′ cited′ r
-run-as e s = rw e at s
+-- A run by what it leaves in the two buffers, and by its outcome.
+pub run-into : {p : Policy} {list : List Bytes} {codes cited codes′ cited′ : Bytes} {r : Outcome}
+    → _≡_ {A = Bytes × Bytes} (codes′, cited′) (
+      room list codes cited ⇒ over (codesOf (answers p list)) codes ∥ codes,
+      room list codes cited ⇒ over (citesOf (answers p list)) cited ∥ cited,
+    )
+    → r ≡ (room list codes cited ⇒ record { ran = true; policy = run p list } ∥ record { ran = false; policy = p })
+    → RunInto p list codes cited codes′ cited′ r
+run-into e f = record {
+  outcome = f;
+  codes-written = ap (λ (w : Bytes × Bytes). w .0) e;
+  cited-written = ap (λ (w : Bytes × Bytes). w .1) e;
+}
 
 -- A buffer that is too short.
 module _ (b ends codes cited : Bytes) (p : Policy) where

@@ -1,21 +1,21 @@
--- Loops that go through the numbers of a set, the lowest first: what is left grows less, of the numbers that are no longer left those
--- of which P holds are picked, and the rows of those that are picked are joined.
+-- Loops that go through the numbers of a set, the lowest first: what is left grows less, and of the numbers that are no longer left those
+-- of which P holds are picked.
 use mathlib.Core.Path.{_≡_, refl, sym, ap, subst, _∙_}
 use mathlib.Core.Bool.{Bool, true}
-use mathlib.Core.List.{List}
 use mathlib.Core.Logic.{inl, inr, ⊎-elim}
-use Prim.Native.Nat.{ℕ, _-_, _*_, _%_, _^_, _<_}
+use Prim.Native.Nat.{ℕ, _-_, _*_, _%_, _^_, _≤_, _<_}
+use native.Mathlib.Nat.{le-refl}
 use native.Mathlib.Decide.{decLt, ℕ-discrete}
 use native.Mathlib.Omega.{arith}
 use lib.Bits.{bitAnd, bitOr, and-le-l}
 use lib.Arith.{lt-of-le-ne}
-use lib.Pow.{ones-sub-lt}
-use lib.ListN.{getD}
-use Rattle.reach.specs.Words.{bit, SetOf}
+use borrow.Author.Tests.{eq-eqb}
+use lib.Pow.{ones-sub-lt, pow-pos}
+use Rattle.reach.specs.Words.{bit, has, SetOf}
 use Rattle.reach.specs.Tests.{Decides}
-use Rattle.reach.specs.Asking.{Joined}
-use Rattle.reach.proofs.Bits.{bit-le, bit-two, bit-clash, bit-none, bit-not, or-bit, bit-of-or, lowest-bit, or-grows}
-use Rattle.reach.proofs.Testing.{some-map}
+use Rattle.reach.specs.Successors.{withoutBit}
+use Rattle.reach.proofs.OneBit.{and-is-without}
+use Rattle.reach.proofs.Bits.{bit-le, bit-two, bit-clash, bit-none, bit-high, bit-not, one-shl, lowest-bit, or-grows}
 use Rattle.reach.proofs.WordSets.{set-bits, set-as, set-or, set-mask, set-not, set-one, set-below, set-none}
 
 -- ---- What is left
@@ -32,6 +32,21 @@ module _ {left : ℕ} (word : left < 2 ^ 64) (h : ℕ) (e : bit left h ≡ 1) wh
       lt-of-le-ne
       (and-le-l left (2 ^ 64 - 1 - (1 * 2 ^ h) % 2 ^ 64))
       (λ q. left-rest .only h (ap (λ (n : ℕ). bit n h) q ∙ e) .1 .1 refl)
+
+  -- To take h away is to subtract it.
+  pub left-without : left - (1 * 2 ^ h) % 2 ^ 64 ≡ bitAnd left (2 ^ 64 - 1 - (1 * 2 ^ h) % 2 ^ 64)
+  unfolding withoutBit has
+  left-without = rw (and-is-without h left left-low word, eq-eqb _ _ e, one-shl h left-low)
+
+  pub left-least : (0 < (1 * 2 ^ h) % 2 ^ 64) × ((1 * 2 ^ h) % 2 ^ 64 ≤ left)
+  left-least =
+      rw (one-shl h left-low) (
+        pow-pos h,
+        elim (decLt left (2 ^ h)) [
+          | yes l ↦ absurd (bit-clash left h (bit-high h left h l (le-refl h)) e)
+          | no n ↦ omega (arith, n)
+        ],
+      )
 
   -- What was left and is no longer is h.
   pub left-taken : (y : ℕ) → bit left y ≡ 1 → (bit (bitAnd left (2 ^ 64 - 1 - (1 * 2 ^ h) % 2 ^ 64)) y ≡ 1 → ⊥) → y ≡ h
@@ -88,34 +103,6 @@ module _ {P : ℕ → Type 0} {set : ℕ} where
       (s .picked)
       (λ y w. (w .0 .0, w .1))
       (λ y w. ((w .0, λ b. bit-none y (ap (λ (n : ℕ). bit n y) (sym z) ∙ b)), w .1))
-
--- ---- Rows joined
-
--- The rows of no number have nothing.
-pub join-start : (rows : List ℕ) → SetOf 0 (Joined rows 0)
-join-start rows = set-none (λ g w. bit-none (w .place) (w .at .0))
-
--- Where h is picked, its row is joined; where it is not, nothing is.
-pub join-step : (rows : List ℕ) (groups : ℕ) {over o q row : ℕ} (passed : Bool) (h : ℕ) → h < 64 → SetOf over (Joined rows groups)
-    → SetOf o (λ x. (passed ≡ true) × (bit ((1 * 2 ^ h) % 2 ^ 64) x ≡ 1))
-    → SetOf q (λ g. (passed ≡ true) × (bit row g ≡ 1)) → row ≡ getD rows h 0
-    → SetOf (bitOr over q) (Joined rows (bitOr groups o))
-join-step rows groups {o = o} passed h low s k r e =
-    let one = set-one h low in
-    set-as
-    (set-or s r)
-    (λ g w.
-    ⊎-elim
-    (λ a. some-map (λ y v. (bit-of-or groups o y (inl (v .0)), v .1)) a)
-    (λ a. record { place = h; low = low; at = (bit-of-or groups o h (inr (k .all h (a .0, one .all h refl))), ap (λ (n : ℕ). bit n g) (sym e) ∙ a .1) })
-    w)
-    (λ g w.
-    ⊎-elim
-    (λ b. inl (record { place = w .place; low = w .low; at = (b, w .at .1) }))
-    (λ b.
-    let v = k .only (w .place) b in
-    inr (v .0, ap (λ (n : ℕ). bit n g) e ∙ subst (λ (y : ℕ). bit (getD rows y 0) g ≡ 1) (one .only (w .place) (v .1)) (w .at .1)))
-    (or-bit groups o (w .place) (w .at .0)))
 
 -- ---- What is done, and what is left to do
 

@@ -19,6 +19,7 @@ pub mod Gathering
 pub mod Upward
 pub mod Settling
 pub mod Unions
+pub mod Marking
 pub mod Posting
 pub mod Meeting
 pub mod Holding

@@ -5,7 +5,7 @@ use mathlib.Core.Path.{_≡_, refl, sym, ap, subst, _∙_}
 use mathlib.Core.Bool.{not}
 use mathlib.Core.List.{List}
 use mathlib.Core.Logic.{_⊎_, inl, inr, ⊎-elim}
-use Prim.Native.Nat.{ℕ, _+_, _-_, _*_, _%_, _^_, _≤_, _<_}
+use Prim.Native.Nat.{ℕ, _+_, _-_, _*_, _/_, _%_, _^_, _≤_, _<_}
 use native.Mathlib.Nat.{le-refl, not-suc-le-zero}
 use native.Mathlib.Decide.{ℕ-discrete}
 use native.Mathlib.Omega.{arith}
@@ -20,7 +20,7 @@ use Rattle.reach.specs.Tables.{sortIn, sort, stored, noAppointment, appo
 use Rattle.reach.specs.Reach.{InUse, Group, Under, itself, up}
 use Rattle.reach.specs.Privileges.{Holds, Owns, Orphan, orphaned}
 use Rattle.reach.specs.Asking.{reachOf, tablesOf, UnderBy, OwnersA, UnderSomeBy, Looking, Closed}
-use Rattle.reach.proofs.Bits.{bit-two, bit-clash, bit-none}
+use Rattle.reach.proofs.Bits.{bit-le, bit-two, bit-clash, bit-none, low-bit}
 use Rattle.reach.proofs.WordSets.{set-bits, set-or, set-mask, set-one, set-empty, set-lowest, decides-nonempty, below-next}
 use Rattle.reach.proofs.Testing.{decides-as, decides-same, some-map}
 use Rattle.reach.proofs.Reaching.{group-in-use, under-upper}
@@ -104,23 +104,17 @@ module _ {s m : List ℕ} {set : ℕ} where
     meets x n =
         let w = set-lowest (set-mask (getD m x 0) (set-bits groups (k .groups-word))) n in record { place = _; low = w .0; at = w .1 }
 
-    module _ (x : ℕ) (l : x < 64) where
-      either : SetOf (bitOr (bitAnd set ((1 * 2 ^ x) % 2 ^ 64)) (bitAnd (getD m x 0) groups))
-          (λ y. ((bit set y ≡ 1) × (y ≡ x)) ⊎ ((bit (getD m x 0) y ≡ 1) × (bit groups y ≡ 1)))
-      either = set-or (set-mask set (set-one x l)) (set-mask (getD m x 0) (set-bits groups (k .groups-word)))
+    -- An object that is directly in a group found owned, or in the set, and one that is not in the set.
+    pub look-met : (x : ℕ) → x < 64 → InUse (view (reachOf s m)) x
+        → (bitAnd (getD m x 0) groups ≡ 0 → ⊥) ⊎ (bitAnd (set / 2 ^ x) 1 ≡ 0 → ⊥) → UnderSomeBy s m set x
+    look-met x l i w =
+        ⊎-elim
+        (λ n. look-through x i (meets x n))
+        (λ n. record { place = x; low = l; at = (omega (arith, low-bit set x, bit-le set x, n), itself i) })
+        w
 
-      -- An object that is in the set, or directly in a group found owned, and one that is neither.
-      pub look-met : InUse (view (reachOf s m)) x → (bitOr (bitAnd set ((1 * 2 ^ x) % 2 ^ 64)) (bitAnd (getD m x 0) groups) ≡ 0 → ⊥)
-          → UnderSomeBy s m set x
-      look-met i n =
-          let w = set-lowest either n in
-          ⊎-elim
-          (λ a. record { place = x; low = l; at = (subst (λ (y : ℕ). bit set y ≡ 1) (a .1) (a .0), itself i) })
-          (λ b. look-through x i (record { place = _; low = w .0; at = b }))
-          (w .1)
-
-      pub look-not : bitOr (bitAnd set ((1 * 2 ^ x) % 2 ^ 64)) (bitAnd (getD m x 0) groups) ≡ 0 → bit set x ≡ 1 → ⊥
-      look-not z b = set-empty either z x (inl (b, refl))
+    pub look-not : (x : ℕ) → bitAnd (set / 2 ^ x) 1 ≡ 0 → bit set x ≡ 1 → ⊥
+    look-not x z b = omega (arith, low-bit set x, z, b)
 
 -- With x found owned, the groups are these.
 pub record Grown (s m : List ℕ) (set groups x more : ℕ) : Type 0 where

@@ -128,20 +128,6 @@ decides-some (suc n) t P d =
 
 -- ---- Loops that look through the numbers 0, 1, ..
 
--- A test that is taken on from number to number: it fails at 0, and at n + 1 it passes if it passed at n or the test of n does.
-pub decides-some-start : {P : ℕ → Type 0} → Decides false (Some 0 P)
-decides-some-start = decides-none some-not-start
-
-pub decides-some-next : {n : ℕ} {P : ℕ → Type 0} (a b : Bool) → Decides a (Some n P) → Decides b (P n) → Decides (a || b) (Some (n + 1) P)
-decides-some-next {n} {P} a b d e =
-    decides-as
-    (decides-or a b d e)
-    (λ w. ⊎-elim some-up (λ h. record { place = n; low = omega arith; at = h }) w)
-    (λ w. some-split (subst (λ (m : ℕ). Some m P) (add-one n) w))
-
-pub decides-some-end : (m : ℕ) {n : ℕ} {t : Bool} {P : ℕ → Type 0} → Decides t (Some n P) → n ≡ m → Decides t (Some m P)
-decides-some-end m {t = t} {P} d e = subst (λ (k : ℕ). Decides t (Some k P)) e d
-
 -- Nothing below i was found, and i is not it.
 pub none-next : (t : ℕ → Bool) (i : ℕ) → some i t ≡ false → t i ≡ false → some (i + 1) t ≡ false
 unfolding some

@@ -32,10 +32,6 @@ tablesOf sorts memberships appointments =
 abbrev pub UnderBy : List ℕ → List ℕ → ℕ → ℕ → Type 0
 UnderBy sorts memberships x g = Under (view (reachOf sorts memberships)) x g
 
--- The row of some number of the set has g.
-abbrev pub Joined : List ℕ → ℕ → ℕ → Type 0
-Joined rows set g = Some 64 (λ y. (bit set y ≡ 1) × (bit (getD rows y 0) g ≡ 1))
-
 -- ---- Appointments
 
 -- u holds this appointment, it is of that kind, and a is its A.

@@ -1,5 +1,5 @@
 -- What a reader of the crate must believe, in the order of document 01: words as sets and tests, the tables, reach, privileges, the
--- successors, whole and as they are read, and what is surveyed at once.
+-- successors, whole and as they are read, the objects of each sort, and what a question asks.
 pub mod Words
 pub mod Tests
 pub mod Tables

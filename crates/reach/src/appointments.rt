@@ -1,4 +1,5 @@
 // What is read of the appointments alone.
+ghost use mathlib.Core.Path.{_≡_};
 ghost use Prim.Native.Nat.{_<_};
 ghost use lib.ListN.{getD};
 ghost use Rattle.reach.specs.Words.{SetOf};
@@ -11,46 +12,79 @@ use crate::Posts;
 use crate::objects::sort_in;
 use crate::sets::has;
 use crate::sets::just;
+use crate::sets::mark;
+use crate::sets::only_if;
 
-// The A of this appointment, if it is of that kind and u holds it. The holder is looked at first: most appointments are another's.
-fn a_of(w: Appointment, kind: u8, u: u8) -> u64
-    ensures { λ r. ⌜ SetOf r (λ a. (a < 64) × HasA w kind u a) ⌝ }
+// The places whose appointment u holds. No place is branched on: which of them are his the processor can't guess.
+fn held_by(appointments: [Appointment; 32], u: u8) -> u32
+    ensures { λ r. ⌜ SetOf r (λ i. (i < 32) × (getD appointments i noAppointment .holder ≡ u)) ⌝ }
 {
-    if w.holder != u {
-        return 0;
+    let mut set: u32 = 0;
+    let mut i: usize = 0;
+    while i < 32 {
+        set |= mark(appointments[i].holder == u, i);
+        i += 1;
     }
-    if w.kind != kind {
-        return 0;
-    }
-    just(w.a)
+    set
 }
 
-// What u is appointed over, as an owner and as a manager.
+// The places whose appointment is of that kind.
+fn of_kind(appointments: [Appointment; 32], kind: u8) -> u32
+    ensures { λ r. ⌜ SetOf r (λ i. (i < 32) × (getD appointments i noAppointment .kind ≡ kind)) ⌝ }
+{
+    let mut set: u32 = 0;
+    let mut i: usize = 0;
+    while i < 32 {
+        set |= mark(appointments[i].kind == kind, i);
+        i += 1;
+    }
+    set
+}
+
+// The A of this appointment, as an owner's or as a manager's, for its holder.
+fn posts_by(w: Appointment) -> Posts
+    ensures { λ r. ⌜ SetOf (r .owner) (λ a. (a < 64) × HasA w owner (w .holder) a) ×
+        SetOf (r .manager) (λ a. (a < 64) × HasA w manager (w .holder) a) ⌝ }
+{
+    let a = just(w.a);
+    Posts {
+        owner: only_if(w.kind == 1, a),
+        manager: only_if(w.kind == 2, a),
+    }
+}
+
+// What u is appointed over, as an owner and as a manager: of the places that are his, the lowest first.
 pub fn posts_of(appointments: [Appointment; 32], u: u8) -> Posts
     ensures { λ r. ⌜ PostsIn appointments u r ⌝ }
 {
     let mut owner: u64 = 0;
     let mut manager: u64 = 0;
-    let mut i: usize = 0;
-    while i < 32 {
-        owner |= a_of(appointments[i], 1, u);
-        manager |= a_of(appointments[i], 2, u);
-        i += 1;
+    let mut left = held_by(appointments, u);
+    while left != 0 {
+        let i = u32::trailing_zeros(left) as usize;
+        let posts = posts_by(appointments[i]);
+        owner |= posts.owner;
+        manager |= posts.manager;
+        left &= !(1u32 << i);
     }
     Posts { owner, manager }
 }
 
-// Whether this appointment, if it is an administrator's and u holds it, has its A in the one set and its B in the other.
+// Whether this appointment, if it is an administrator's, has its A in the one set and its B in the other, for its holder.
+fn pair_by(w: Appointment, first: u64, second: u64) -> bool
+    ensures { λ r. ⌜ Decides r (CoversPair w (w .holder) first second) ⌝ }
+{
+    (w.kind == 3) & has(first, w.a) & has(second, w.b)
+}
+
+// The same for u: another's appointment does not.
 fn covers(w: Appointment, u: u8, first: u64, second: u64) -> bool
     ensures { λ r. ⌜ Decides r (CoversPair w u first second) ⌝ }
 {
     if w.holder != u {
         return false;
     }
-    if w.kind != 3 {
-        return false;
-    }
-    has(first, w.a) & has(second, w.b)
+    pair_by(w, first, second)
 }
 
 // Whether one of u's administrator's appointments does.
@@ -74,26 +108,7 @@ pub struct Given {
     pub pair: bool,
 }
 
-// What this appointment gives u. The holder is looked at once: most appointments are another's.
-fn given_by(w: Appointment, u: u8, first: u64, second: u64) -> Given
-    ensures { λ r. ⌜ SetOf (r .owner) (λ a. (a < 64) × HasA w owner u a) × SetOf (r .manager) (λ a. (a < 64) × HasA w manager u a) ×
-        Decides (r .pair) (CoversPair w u first second) ⌝ }
-{
-    if w.holder != u {
-        return Given {
-            owner: 0,
-            manager: 0,
-            pair: false,
-        };
-    }
-    Given {
-        owner: a_of(w, 1, u),
-        manager: a_of(w, 2, u),
-        pair: covers(w, u, first, second),
-    }
-}
-
-// The posts of u, and whether one of his administrator's appointments covers the pair of sets: the table is gone through once.
+// The posts of u, and whether one of his administrator's appointments covers the pair of sets: his places are gone through once.
 pub fn given_to(appointments: [Appointment; 32], u: u8, first: u64, second: u64) -> Given
     ensures { λ r. ⌜ SetOf (r .owner) (AppointedOver appointments owner u) × SetOf (r .manager) (AppointedOver appointments manager u) ×
         Decides (r .pair) (Some 32 (λ i. CoversPair (getD appointments i noAppointment) u first second)) ⌝ }
@@ -101,14 +116,15 @@ pub fn given_to(appointments: [Appointment; 32], u: u8, first: u64, second: u64)
     let mut owner: u64 = 0;
     let mut manager: u64 = 0;
     let mut pair = false;
-    let mut i: usize = 0;
-    while i < 32 {
+    let mut left = held_by(appointments, u);
+    while left != 0 {
+        let i = u32::trailing_zeros(left) as usize;
         let w = appointments[i];
-        let given = given_by(w, u, first, second);
-        owner |= given.owner;
-        manager |= given.manager;
-        pair |= given.pair;
-        i += 1;
+        let posts = posts_by(w);
+        owner |= posts.owner;
+        manager |= posts.manager;
+        pair |= pair_by(w, first, second);
+        left &= !(1u32 << i);
     }
     Given {
         owner,
@@ -146,28 +162,17 @@ pub fn partners_of(appointments: [Appointment; 32], u: u8, first: u64) -> u64
     set
 }
 
-// The A of this appointment, if it is an owner's and its holder is a user. The kind is looked at first: most places are empty.
-fn owners_a(sorts: &[u8; 64], w: Appointment) -> u64
-    ensures { λ r. ⌜ SetOf r (λ a. (a < 64) × OwnersA (now (sorts .entry)) w a) ⌝ }
-{
-    if w.kind != 1 {
-        return 0;
-    }
-    if sort_in(sorts, w.holder) != 2 {
-        return 0;
-    }
-    just(w.a)
-}
-
-// The As of all owners' appointments whose holder is a user.
+// The As of all owners' appointments whose holder is a user: of the places that have an owner's, the lowest first.
 pub fn owners_from(sorts: &[u8; 64], appointments: [Appointment; 32]) -> u64
     ensures { λ r. ⌜ SetOf r (λ a. Some 32 (λ i. (a < 64) × OwnersA (now (sorts .entry)) (getD appointments i noAppointment) a)) ⌝ }
 {
     let mut set: u64 = 0;
-    let mut i: usize = 0;
-    while i < 32 {
-        set |= owners_a(sorts, appointments[i]);
-        i += 1;
+    let mut left = of_kind(appointments, 1);
+    while left != 0 {
+        let i = u32::trailing_zeros(left) as usize;
+        let w = appointments[i];
+        set |= only_if(sort_in(sorts, w.holder) == 2, just(w.a));
+        left &= !(1u32 << i);
     }
     set
 }

@@ -1,43 +1,24 @@
 // Reach, worked from the object upward.
 ghost use mathlib.Core.Path.{_≡_};
-ghost use lib.ListN.{getD};
-ghost use Rattle.reach.specs.Words.{SetOf, bit};
+ghost use Rattle.reach.specs.Words.{SetOf};
 ghost use Rattle.reach.specs.Tables.{view};
 ghost use Rattle.reach.specs.Reach.{Under, under};
-ghost use Rattle.reach.specs.Asking.{UnderBy, Joined};
+ghost use Rattle.reach.specs.Asking.{UnderBy};
 use crate::Policy;
 use crate::objects::sort_in;
 use crate::sets::has;
 use crate::sets::only_if;
 
-// The groups of a level, and what these are directly stored in, as sets.
-struct Level {
-    groups: u64,
-    over: u64,
-}
-
-// The groups among the numbers of a set, and what their rows have, together: in one pass, since each level waits for the one before it.
-fn level_of<'a>(sorts: &'a [u8; 64], memberships: &'a [u64; 64], set: u64) -> Level
-    ensures { λ r. ⌜ SetOf (r .groups) (λ g. (bit set g ≡ 1) × (getD (now (sorts .entry)) g 0 ≡ 1)) ×
-        SetOf (r .over) (Joined (now (memberships .entry)) (r .groups)) ⌝ }
+// The one set, or the other if that is empty.
+fn first_of(one: u64, other: u64) -> u64
+    ensures { λ r. ⌜ (one ≡ 0 → r ≡ other) × ((one ≡ 0 → ⊥) → r ≡ one) ⌝ }
 {
-    let mut groups: u64 = 0;
-    let mut over: u64 = 0;
-    let mut left = set;
-    while left != 0 {
-        let h = u64::trailing_zeros(left) as usize;
-        let one = 1u64 << h;
-        let group = sorts[h] == 1;
-        let row = memberships[h];
-        groups |= only_if(group, one);
-        over |= only_if(group, row);
-        left &= !one;
-    }
-    Level { groups, over }
+    if one == 0 { other } else { one }
 }
 
-// All that x is under, itself too. The climb goes by levels: each turn takes those that were met last, keeps the groups among them, and
-// meets what these are directly in. What was met before is not met again, so a circle ends.
+// All that x is under, itself too. The climb goes by levels: `left` is what is left of a level, and `over` what the rows gone through have.
+// Where nothing is left, what of that was not met before is the next level; so a circle ends. There is one loop and no other, since the
+// processor cannot guess where a level ends.
 pub fn climb<'a>(sorts: &'a [u8; 64], memberships: &'a [u64; 64], x: u8) -> u64
     ensures { λ r. ⌜ SetOf r (λ g. UnderBy (now (sorts .entry)) (now (memberships .entry)) x g) ⌝ }
 {
@@ -49,13 +30,19 @@ pub fn climb<'a>(sorts: &'a [u8; 64], memberships: &'a [u64; 64], x: u8) -> u64
     }
     let n = x as usize;
     let mut found = 1u64 << x;
-    let mut met = found;
-    let mut last = memberships[n] & !met;
-    while last != 0 {
-        let l = level_of(sorts, memberships, last);
-        found |= l.groups;
-        met |= last;
-        last = l.over & !met;
+    let mut over = memberships[n];
+    let mut left = over & !found;
+    let mut met = found | left;
+    while left != 0 {
+        let h = u64::trailing_zeros(left) as usize;
+        let one = 1u64 << h;
+        let group = sorts[h] == 1;
+        let row = memberships[h];
+        found |= only_if(group, one);
+        over |= only_if(group, row);
+        let rest = left - one;
+        left = first_of(rest, over & !met);
+        met |= left;
     }
     found
 }

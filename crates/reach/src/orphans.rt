@@ -12,7 +12,7 @@ struct Found {
     left: u64,
 }
 
-// One pass over the objects: one in use is owned if it is in the set, or directly in a group that is found owned by then; else it is left.
+// One pass over the objects: one in use is owned if it is directly in a group that is found owned by then, or in the set; else it is left.
 fn scan<'a>(sorts: &'a [u8; 64], memberships: &'a [u64; 64], set: u64) -> Found
     ensures { λ r. ⌜ Looking (now (sorts .entry)) (now (memberships .entry)) set 64 (r .groups) (r .left) ⌝ }
 {
@@ -26,15 +26,16 @@ fn scan<'a>(sorts: &'a [u8; 64], memberships: &'a [u64; 64], set: u64) -> Found
         if sort > 3 {
             continue;
         }
-        let one = 1u64 << x;
-        if (set & one) | (memberships[x] & groups) == 0 {
-            left |= one;
-            continue;
+        if memberships[x] & groups == 0 {
+            if (set >> x) & 1 == 0 {
+                left |= 1u64 << x;
+                continue;
+            }
         }
         if sort != 1 {
             continue;
         }
-        groups |= one;
+        groups |= 1u64 << x;
     }
     Found { groups, left }
 }

@@ -10,21 +10,19 @@ impl Policy {
     pub fn made(mut self, x: u8, sort: u8, g: u8) -> Policy
         ensures { λ r. ⌜ r ≡ made self x sort g ⌝ }
     {
-        if x >= 64 {
-            return self;
+        if x < 64 {
+            if g < 64 {
+                let mut i: usize = 0;
+                while i < 64 {
+                    self.memberships[i] = self.memberships[i] & !(1u64 << x);
+                    i += 1;
+                }
+                let n = x as usize;
+                self.memberships[n] = 0;
+                self.memberships[n] = self.memberships[n] | (1u64 << g);
+                self.sorts[n] = sort;
+            }
         }
-        if g >= 64 {
-            return self;
-        }
-        let mut i: usize = 0;
-        while i < 64 {
-            self.memberships[i] = self.memberships[i] & !(1u64 << x);
-            i += 1;
-        }
-        let n = x as usize;
-        self.memberships[n] = 0;
-        self.memberships[n] = self.memberships[n] | (1u64 << g);
-        self.sorts[n] = sort;
         self
     }
 
@@ -32,14 +30,12 @@ impl Policy {
     pub fn put(mut self, x: u8, g: u8) -> Policy
         ensures { λ r. ⌜ r ≡ put self x g ⌝ }
     {
-        if x >= 64 {
-            return self;
+        if x < 64 {
+            if g < 64 {
+                let i = x as usize;
+                self.memberships[i] = self.memberships[i] | (1u64 << g);
+            }
         }
-        if g >= 64 {
-            return self;
-        }
-        let i = x as usize;
-        self.memberships[i] = self.memberships[i] | (1u64 << g);
         self
     }
 
@@ -47,14 +43,12 @@ impl Policy {
     pub fn taken(mut self, x: u8, g: u8) -> Policy
         ensures { λ r. ⌜ r ≡ taken self x g ⌝ }
     {
-        if x >= 64 {
-            return self;
+        if x < 64 {
+            if g < 64 {
+                let i = x as usize;
+                self.memberships[i] = self.memberships[i] & !(1u64 << g);
+            }
         }
-        if g >= 64 {
-            return self;
-        }
-        let i = x as usize;
-        self.memberships[i] = self.memberships[i] & !(1u64 << g);
         self
     }
 
@@ -63,10 +57,9 @@ impl Policy {
         ensures { λ r. ⌜ r ≡ appointed self i w ⌝ }
     {
         let n = i as usize;
-        if n >= 32 {
-            return self;
+        if n < 32 {
+            self.appointments[n] = w;
         }
-        self.appointments[n] = w;
         self
     }
 
@@ -88,15 +81,14 @@ impl Policy {
         ensures { λ r. ⌜ r ≡ granted self i users targets operations ⌝ }
     {
         let n = i as usize;
-        if n >= 64 {
-            return self;
+        if n < 64 {
+            self.rules[n] = AccessRule {
+                used: true,
+                users,
+                targets,
+                operations,
+            };
         }
-        self.rules[n] = AccessRule {
-            used: true,
-            users,
-            targets,
-            operations,
-        };
         self
     }
 
@@ -105,15 +97,14 @@ impl Policy {
         ensures { λ r. ⌜ r ≡ withdrawn self i ⌝ }
     {
         let n = i as usize;
-        if n >= 64 {
-            return self;
+        if n < 64 {
+            self.rules[n] = AccessRule {
+                used: false,
+                users: 0,
+                targets: 0,
+                operations: 0,
+            };
         }
-        self.rules[n] = AccessRule {
-            used: false,
-            users: 0,
-            targets: 0,
-            operations: 0,
-        };
         self
     }
 }

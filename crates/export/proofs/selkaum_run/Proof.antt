@@ -3,6 +3,7 @@
 use native.Mathlib.Omega.{arith}
 use borrow.Author.Tests.{not-true, not-false}
 use Rattle.list.proofs.Demanded.{third}
+use Rattle.list.proofs.Running.{run-into}
 use Rattle.export.proofs.Filling.{no-picture, not-run, has-run}
 use borrow.Author.Needs.{needs}
 use Rattle.export.proofs.selkaum_run.Statement.{statement}
@@ -14,8 +15,10 @@ returns c = (no-picture _ _ _ _ (omega (arith, c .if1 .taken)), third _)
 returns-2 : tie.Need-returns-2
 returns-2 c =
     let ran = c .before .before .before .before .before .before in
+    let left = ran .run-list .ensures .0 in
     let room = ran .before .before .before in (
-      not-run _ _ _ _ (ran .run-list .result) (omega (arith, room .if1 .left)) (search needs) (not-true _ (c .if2 .taken)),
+      not-run _ _ _ _ (ran .run-list .result) (omega (arith, room .if1 .left))
+          (run-into (simp (left .codes-written, left .cited-written)) (simp (left .outcome))) (not-true _ (c .if2 .taken)),
       ran .run-list .ensures .1,
     )
 
@@ -24,8 +27,10 @@ returns-3 c =
     let drawn = c .before .before in
     let tested = drawn .before .before .before in
     let ran = tested .before .before .before .before .before .before in
+    let left = ran .run-list .ensures .0 in
     let room = ran .before .before .before in (
-      has-run _ _ _ _ (ran .run-list .result) (omega (arith, room .if1 .left)) (search needs) (not-false _ (tested .if2 .left))
+      has-run _ _ _ _ (ran .run-list .result) (omega (arith, room .if1 .left))
+          (run-into (simp (left .codes-written, left .cited-written)) (simp (left .outcome))) (not-false _ (tested .if2 .left))
           (drawn .put-policy .ensures),
       ran .run-list .ensures .1,
     )

@@ -1,18 +1,17 @@
 -- Each arm is given which step `step_at` found, and its contract says that it is the one at the position.
-use mathlib.Core.Path.{sym, ap, _∙_}
+use mathlib.Core.Path.{sym}
 use borrow.Author.Needs.{needs}
-use Rattle.frame.specs.Reading.{placeAfter}
 use Rattle.frame.proofs.reading.place_after.Statement.{statement}
 use Rattle.frame.proofs.reading.place_after.Tie as tie
 
 returns : tie.Need-returns
-returns c = ap (placeAfter _) (sym (c .before .next .given .1) ∙ c .before .before .before .step-at .ensures)
+returns c = rw (sym (c .before .before .before .step-at .ensures), c .before .next .given .1)
 
 returns-2 : tie.Need-returns-2
-returns-2 c = ap (placeAfter _) (sym (c .enum-told .given .1) ∙ c .before .before .step-at .ensures)
+returns-2 c = rw (sym (c .before .before .step-at .ensures), c .enum-told .given .1)
 
 returns-3 : tie.Need-returns-3
-returns-3 c = ap (placeAfter _) (sym (c .enum-told2 .given .1) ∙ c .before .before .step-at .ensures)
+returns-3 c = rw (sym (c .before .before .step-at .ensures), c .enum-told2 .given .1)
 
 pub place-after-spec : {M : Type 1} → statement M
 place-after-spec =

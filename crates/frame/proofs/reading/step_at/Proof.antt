@@ -18,17 +18,17 @@ use Rattle.frame.proofs.Steps.{whole-of-untorn}
 use Rattle.frame.proofs.reading.step_at.Statement.{statement}
 use Rattle.frame.proofs.reading.step_at.Tie as tie
 
--- The bytes of b from a position on, as the code has them: a part that reaches to the end. t is what `torn` returns of it,
--- and l what `length_field` does.
-module _ (b : List ℕ) (at : ℕ) (low : at < length b) where
+-- The bytes of b from a position on, as the code has them: a part that starts at `first`, and reaches to the end. t is what `torn` returns
+-- of it, and l what `length_field` does.
+module _ (b : List ℕ) (at : ℕ) (low : at < length b) (first : ℕ) (is : first ≡ at) where
   abbrev part : List ℕ
-  part = take (length b - at) (drop at b)
+  part = take (length b - first) (drop first b)
 
   -- It is what `drop` leaves.
   from : part ≡ drop at b
   from =
       let h : length (drop at b) ≡ length b - at = length-drop at b in
-      take-all (length b - at) (drop at b) (omega arith)
+      rw is (take-all (length b - at) (drop at b) (omega arith))
 
   module _ (t : Bool) (e : t ≡ torn part) where
     -- Each answer of `torn` gives its step.
@@ -60,17 +60,17 @@ unfolding stepAt
 returns c = simp (le-leb _ _ (c .if1 .taken))
 
 returns-2 : tie.Need-returns-2
-returns-2 c = tears _ _ (c .before .before .before .if1 .left) _ (c .before .torn .ensures) (c .if2 .taken)
+returns-2 c = tears _ _ (c .before .before .before .if1 .left) _ (omega arith) _ (c .before .torn .ensures) (c .if2 .taken)
 
 add-t5 : tie.Need-add-t5
 add-t5 c =
     within (c .before .before .before .before .before .before .args .bytes .now) _
-    (c .before .before .before .before .if1 .left) _
+    (c .before .before .before .before .if1 .left) _ (omega arith) _
     (c .before .before .torn .ensures) (c .before .if2 .left) _ (c .length-field .ensures) (search needs)
 
 returns-3 : tie.Need-returns-3
 returns-3 c =
-    gives _ _ (c .before .before .before .before .if1 .left) _
+    gives _ _ (c .before .before .before .before .if1 .left) _ (omega arith) _
     (c .before .before .torn .ensures) (c .before .if2 .left) _ (c .length-field .ensures)
 
 pub step-at-spec : {M : Type 1} → statement M

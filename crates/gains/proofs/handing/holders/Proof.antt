@@ -1,5 +1,6 @@
--- The set is a union over the places of the table.
+-- Both sets are unions over the places of the table.
 use native.Mathlib.Omega.{arith}
+use mathlib.Core.Path.{_≡_}
 use Prim.Native.Nat.{_-_, _≤_, _<_}
 use lib.ListN.{getD}
 use Rattle.reach.specs.Tables.{noAppointment}
@@ -10,23 +11,31 @@ use Rattle.gains.proofs.handing.holders.Statement.{statement}
 use Rattle.gains.proofs.handing.holders.Tie as tie
 
 abbrev Inv-loop : tie.InvT-loop
-Inv-loop kind over appointments set₀ i₀ set i =
-    (i ≤ 32) × Union (λ j u. (u < 64) × HolderOf (getD appointments j noAppointment) kind over u) i set
+Inv-loop kind object group appointments had₀ got₀ i₀ had got i =
+    (i ≤ 32)
+    × Union (λ j u. (u < 64) × HolderOf (getD appointments j noAppointment) kind object u) i had
+    × Union (λ j u. (u < 64) × HolderOf (getD appointments j noAppointment) kind group u) i got
 
 abbrev μ-loop : tie.MeasureT-loop
-μ-loop kind over appointments set₀ i₀ set i = 32 - i
+μ-loop kind object group appointments had₀ got₀ i₀ had got i = 32 - i
 
 loop-holds : tie.Need-loop-holds Inv-loop μ-loop
-loop-holds c = (search needs, union-none _)
+loop-holds c = (search needs, union-none _, union-none _)
 
 array-copy-out-holder-of : tie.Need-array-copy-out-holder-of Inv-loop μ-loop
 array-copy-out-holder-of c = c .loop-test .taken
 
 loop-again : tie.Need-loop-again Inv-loop μ-loop
-loop-again c = (search needs, union-add _ (c .before .before .before .loop .inv .1) (c .holder-of .ensures))
+loop-again c =
+    let h = c .before .before in
+    let l = h .before .before .before .loop in
+    (search needs, union-add _ (l .inv .1) (h .holder-of .ensures .0), union-add _ (l .inv .2) (h .holder-of .ensures .1))
 
 returns : tie.Need-returns Inv-loop μ-loop
-returns c = union-end _ 32 (c .before .loop .inv .1) (omega (arith, c .loop-test .left, c .before .loop .inv .0))
+returns c =
+    let l = c .before .loop in
+    let e : l .i ≡ 32 = omega (arith, c .loop-test .left, l .inv .0) in
+    (union-end _ 32 (l .inv .1) e, union-end _ 32 (l .inv .2) e)
 
 pub holders-spec : {M : Type 1} → statement M
 holders-spec =

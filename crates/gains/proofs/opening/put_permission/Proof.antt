@@ -1,8 +1,10 @@
 -- The tables are what the rules grant him before and after; what the search finds is what he comes to be permitted.
+use native.Mathlib.Omega.{arith}
+use lib.Bits.{or-comm}
 use borrow.Author.Tests.{not-true, not-false}
 use Rattle.reach.proofs.Testing.{decides-at, refuted}
 use Rattle.reach.proofs.WordSets.{decides-has}
-use Rattle.gains.proofs.Searched.{put-found-lent}
+use Rattle.gains.proofs.Searched.{granted-of, put-found-lent}
 use Rattle.gains.proofs.Looking.{over-not, over-too}
 use borrow.Author.Needs.{needs}
 use Rattle.gains.proofs.opening.put_permission.Statement.{statement}
@@ -17,12 +19,27 @@ returns c = λ p u g k user o s.
 
 returns-2 : tie.Need-returns-2
 returns-2 c = λ p u g k user o s.
-    let m = c .before in
-    let t = m .before in
+    let e = c .before in
+    let t = e .before in
     let h = t .before .before in
     let here = decides-at (t .before .has .ensures) (decides-has o _) .sound (not-false _ (t .if1 .left)) in
-    put-found-lent p k user o (h .granted .ensures) s (over-too p o s here) (m .granted2 .ensures) (c .first-fresh2 .result)
+    let a = h .before .args in
+    put-found-lent p k user o (h .granted .ensures) s (over-too p o s here)
+    (granted-of (a .rules) (h .granted .ensures) (omega (arith, e .if2 .taken)))
+    (c .first-fresh2 .result)
     (c .first-fresh2 .ensures)
+
+returns-3 : tie.Need-returns-3
+returns-3 c = λ p u g k user o s.
+    let m = c .before in
+    let t = m .before .before in
+    let h = t .before .before in
+    let here = decides-at (t .before .has .ensures) (decides-has o _) .sound (not-false _ (t .if1 .left)) in
+    let a = h .before .args in
+    put-found-lent p k user o (h .granted .ensures) s (over-too p o s here)
+    (granted-of (a .rules) (m .granted2 .ensures) (omega (arith, or-comm (a .over) (a .group))))
+    (c .first-fresh3 .result)
+    (c .first-fresh3 .ensures)
 
 pub put-permission-spec : {M : Type 1} → statement M
 put-permission-spec =
@@ -33,5 +50,7 @@ put-permission-spec =
     (λ c κs. search needs)
     returns
     (λ c κs. search needs)
+    returns-2
     (λ c κs. search needs)
-    returns-2)
+    (λ c κs. search needs)
+    returns-3)

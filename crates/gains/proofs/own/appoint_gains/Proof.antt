@@ -5,6 +5,7 @@ use mathlib.Core.Logic.{inl, inr}
 use Prim.Native.Nat.{ℕ, _<_}
 use native.Mathlib.Decide.{decLt}
 use native.Mathlib.Omega.{arith}
+use lib.Bits.{and-comm}
 use lib.Dec.{eqb}
 use borrow.Author.Tests.{not-true, not-false}
 use Rattle.reach.specs.declared.Policy.{Policy}
@@ -17,6 +18,7 @@ use Rattle.reach.proofs.Testing.{decides-and, decides-eqb, decides-ltb, decides
 use Rattle.reach.proofs.Meeting.{read-user, read-in-use, climbed, posts-of-user}
 use Rattle.gains.specs.Lacking.{Above}
 use Rattle.gains.proofs.Appointed.{lacks-held, lacks-pair, lacks-none}
+use Rattle.gains.proofs.Searched.{decides-equal}
 use Rattle.gains.proofs.Lending.{held-lacked}
 use Rattle.gains.proofs.Outright.{appoint-own-gain, appoint-gains-past}
 use borrow.Author.Needs.{needs}
@@ -87,14 +89,16 @@ returns-3 c =
     let q = c .before .before .before in
     let t = first q in
     appoint-own-gain _ (sized (start t)) _ _ _ _ (own t .1)
-    (lacks-held _ _ _ (own t .0) (told q .0) (told q .1) 1 (c .before .if3 .taken) (inl refl) (held-lacked _ (posts q .owner) (above q)))
+    (lacks-held _ _ _ (own t .0) (told q .0) (told q .1) 1 (c .before .if3 .taken) (inl refl)
+    (decides-equal (held-lacked _ (posts q .owner) (above q)) (rw (and-comm (q .posts-of .result .owner) (q .before .climb .result)))))
 
 returns-4 : tie.Need-returns-4
 returns-4 c =
     let q = c .before .before .before .before .before in
     let t = first q in
     appoint-own-gain _ (sized (start t)) _ _ _ _ (own t .1)
-    (lacks-held _ _ _ (own t .0) (told q .0) (told q .1) 2 (c .before .if4 .taken) (inr refl) (held-lacked _ (posts q .manager) (above q)))
+    (lacks-held _ _ _ (own t .0) (told q .0) (told q .1) 2 (c .before .if4 .taken) (inr refl)
+    (decides-equal (held-lacked _ (posts q .manager) (above q)) (rw (and-comm (q .posts-of .result .manager) (q .before .climb .result)))))
 
 returns-5 : tie.Need-returns-5
 returns-5 c =

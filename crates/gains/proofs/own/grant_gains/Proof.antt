@@ -3,6 +3,7 @@
 use mathlib.Core.Path.{ap}
 use mathlib.Core.Bool.{true, false}
 use Prim.Native.Nat.{_<_}
+use native.Mathlib.Omega.{arith}
 use borrow.Author.Tests.{not-true, not-false}
 use Rattle.reach.specs.Tests.{Decides}
 use Rattle.reach.specs.Tables.{Sized, view}
@@ -14,7 +15,7 @@ use Rattle.reach.proofs.Meeting.{read-user, climbed}
 use Rattle.gains.specs.Lacking.{Above, LacksRuled}
 use Rattle.gains.specs.Searching.{found}
 use Rattle.gains.proofs.Outright.{newRule, grant-own-gain, grant-gains-none}
-use Rattle.gains.proofs.Searched.{grant-found}
+use Rattle.gains.proofs.Searched.{granted-of, grant-found}
 use Rattle.gains.proofs.Covering.{none-lacks-ruled}
 use Rattle.gains.proofs.Looking.{decides-found}
 use borrow.Author.Needs.{needs}
@@ -61,7 +62,9 @@ returns-3 c =
     let m = f .before .before .before .before .before .before .before in
     grant-own-gain _ (sized (start m)) _ _ _ _ _ false (told m .0) (told m .1)
     (decides-none
-    (none-lacks-ruled _ (told m .1) (over m) (climbed _ (f .before .before .climb2 .ensures)) (f .operations-over .ensures) (search needs)
+    (none-lacks-ruled _ (told m .1) (over m) (climbed _ (f .before .before .climb2 .ensures)) (f .operations-over .ensures) (omega arith)
+    (omega arith)
+    (search needs)
     (c .if3 .taken)))
 
 -- What is known where the search is.
@@ -75,7 +78,11 @@ finds c =
     let e = else-2 c in
     let m = e .before .before in
     let among = decides-at (e .before .has .ensures) (decides-has (over m) _) .sound (not-false _ (e .if2 .left)) in
-    grant-found _ (told m .1) (over m) (s .before .before .before .granted .ensures) among (s .before .just .ensures) (s .spread .ensures)
+    grant-found _ (told m .1) (over m)
+    (granted-of (start m .args .p .rules) (s .before .before .before .granted .ensures) (omega arith))
+    among
+    (s .before .just .ensures)
+    (s .spread .ensures)
     (c .first-fresh .result)
     (c .first-fresh .ensures)
 

@@ -1,4 +1,5 @@
 -- B is in use unless it is under nothing; and then its pair with the object is lacked unless one appointment covers both.
+use native.Mathlib.Omega.{arith}
 use Rattle.reach.proofs.Testing.{decides-as, decides-none}
 use Rattle.gains.proofs.Lending.{climbed-lent, above-none, above-some, pair-lacked}
 use borrow.Author.Needs.{needs}
@@ -13,7 +14,7 @@ returns-2 c = λ p x k o.
     let t = c .before in
     let s = climbed-lent p (k .lent) (t .before .climb .ensures) in
     decides-as
-    (pair-lacked p k o s (c .covers-pair .ensures))
+    (pair-lacked p k o s (c .covers-pair .ensures) (omega arith) (omega arith))
     (λ n. (above-some p s (t .if1 .left), n))
     (λ w. w .1)
 

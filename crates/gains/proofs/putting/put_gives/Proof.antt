@@ -1,18 +1,21 @@
--- Unless the object is in use and the group a group, PUT gives and hands over nothing. Who is no user gains nothing; a user gains in one of
--- four ways; and where he does not, those who hold the group and not the object tell, unless he owns the object.
+-- Unless the object is in use and the group a group, PUT gives and hands over nothing, and neither where the one is under the other already.
+-- Who is no user gains nothing; a user gains in one of four ways; and where he does not, those who hold the group and not the object tell, unless he owns the object.
 use mathlib.Core.Path.{_≡_, refl, sym, _∙_}
 use mathlib.Core.Bool.{true, false, not, _&&_}
 use mathlib.Core.Logic.{inl, inr, ⊎-elim}
-use Prim.Native.Nat.{ℕ}
+use Prim.Native.Nat.{ℕ, _-_, _^_}
+use native.Mathlib.Omega.{arith}
+use lib.Bits.{and-comm}
 use lib.Dec.{eqb}
-use borrow.Author.Tests.{not-true, not-false, eq-eqb}
+use borrow.Author.Tests.{not-true, not-false}
 use Rattle.reach.specs.declared.Policy.{Policy}
 use Rattle.reach.specs.Tests.{Decides}
 use Rattle.reach.specs.Tables.{sortIn, Sized, view}
-use Rattle.reach.specs.Reach.{InUse, Group, User}
+use Rattle.reach.specs.Reach.{InUse, Group, User, Under}
 use Rattle.reach.specs.Asking.{PostsOf}
 use Rattle.reach.proofs.Lists.{length-mapped}
 use Rattle.reach.proofs.Testing.{decides-at, decides-and, decides-none, refuted}
+use Rattle.reach.proofs.WordSets.{decides-has}
 use Rattle.reach.proofs.Meeting.{user-of-sort, sort-of-user, read-group, read-in-use, climbed, posts-of-user}
 use Rattle.rules.specs.declared.Request.the-variants.{Put}
 use Rattle.rules.specs.Refusals.{ownGain}
@@ -20,9 +23,11 @@ use Rattle.gains.specs.Lacking.{Above, LacksPut, held-owner, held-manage
 use Rattle.gains.specs.Lending.{Heard, Ruled}
 use Rattle.gains.proofs.Outright.{put-gains-none, put-own-gain, put-hands-none, put-hand-over}
 use Rattle.gains.proofs.PutGives.{none-lacks-put}
+use Rattle.gains.proofs.PutAgain.{put-again-gains, put-again-hands}
+use Rattle.gains.proofs.Searched.{has-of}
 use Rattle.gains.proofs.PutOver.{over-decides}
 use Rattle.gains.proofs.Covering.{lacks-permit-opens}
-use Rattle.gains.proofs.Lending.{held-lacked, held-had}
+use Rattle.gains.proofs.Lending.{held-none, held-had}
 use Rattle.gains.proofs.Looking.{decides-found, grows-lacks, lacks-grows}
 use Rattle.gains.proofs.Verdicts.{given-own, given-over}
 use borrow.Author.Needs.{needs}
@@ -81,12 +86,27 @@ returns-2 c =
     (over-decides _ (λ o. n (o .user)) (h .hands-over .ensures _ _ _ refl refl (object q) (group q))))
     (c .handed .ensures)
 
+-- The object is under the group already.
+returns-3 : tie.Need-returns-3
+returns-3 c =
+    let h = c .before in
+    let t = h .before in
+    let q = t .before .before .before in
+    let a = start q .args in
+    let user : User (view (a .p)) (a .u) = user-of-sort _ _ (sym (t .before .sort-in3 .ensures) ∙ t .if2 .left) in
+    let here = has-of (q .before .before .before .climb .result) (a .g) (h .has .ensures) (omega arith) (omega arith) in
+    let under : Under (view (a .p)) (a .x) (a .g) = decides-at here (decides-has (object q) _) .sound (c .if3 .taken) in
+    given-over _ _ _
+    (put-own-gain _ (sized (start q)) _ _ _ (fits q .0) (fits q .1) false user (decides-none (put-again-gains under user)))
+    (put-hand-over _ (sized (start q)) _ _ _ (fits q .0) (fits q .1) false (decides-none (put-again-hands under)))
+    refl
+
 -- The sender is a user, and what he is appointed over is known.
 abbrev climbs : tie.After-posts-of → tie.After-climb2
-climbs c = c .before .before .before .before
+climbs c = c .before .before .before .before .before .before
 
 user : (c : tie.After-posts-of) → User (view (start (climbs c) .args .p)) (start (climbs c) .args .u)
-user c = user-of-sort _ _ (sym (c .before .before .sort-in3 .ensures) ∙ c .before .if2 .left)
+user c = let t = c .before .before .before in user-of-sort _ _ (sym (t .before .sort-in3 .ensures) ∙ t .if2 .left)
 
 posts : (c : tie.After-posts-of) → let a = start (climbs c) .args in PostsOf (view (a .p)) (a .u) (c .posts-of .result)
 posts c = posts-of-user _ (user c) (c .posts-of .ensures)
@@ -106,8 +126,8 @@ gains-not : (c : tie.After-posts-of) → let a = start (climbs c) .args in (Lack
 gains-not c n =
     let q = climbs c in put-own-gain _ (sized (start q)) _ _ _ (fits q .0) (fits q .1) false (user c) (decides-none n)
 
-returns-3 : tie.Need-returns-3
-returns-3 c =
+returns-4 : tie.Need-returns-4
+returns-4 c =
     let m = c .before in
     let d = m .before in
     let q = climbs d in
@@ -116,13 +136,13 @@ returns-3 c =
     (⊎-elim
     (λ w. held-owner (grows-lacks _ (posts d .owner) (object q) (group q) w))
     (λ w. held-manager (grows-lacks _ (posts d .manager) (object q) (group q) w))
-    (m .posts-grow .ensures .sound (c .if3 .taken))))
+    (m .posts-grow .ensures .sound (c .if4 .taken))))
 
-returns-4 : tie.Need-returns-4
-returns-4 c =
+returns-5 : tie.Need-returns-5
+returns-5 c =
     let d = c .before .before .before .before .before .before in
     let q = climbs d in
-    given-own _ _ _ (gains d (pair (c .before .pairs-come .ensures _ _ _ (heard d) (object q) (group q) .sound (c .if4 .taken))))
+    given-own _ _ _ (gains d (pair (c .before .pairs-come .ensures _ _ _ (heard d) (object q) (group q) .sound (c .if5 .taken))))
 
 -- Neither a post grows nor a pair comes, and what he is under has been climbed.
 abbrev posted : tie.After-climb3 → tie.After-posts-of
@@ -134,8 +154,8 @@ over c = climbed _ (c .climb3 .ensures)
 ruled : (c : tie.After-posts-of) → let a = start (climbs c) .args in Ruled (a .p) (a .p .sorts) (a .p .memberships) (a .p .rules)
 ruled c = record { lent = record { sorts = refl; memberships = refl }; rules = refl }
 
-returns-5 : tie.Need-returns-5
-returns-5 c =
+returns-6 : tie.Need-returns-6
+returns-6 c =
     let f = c .before in
     let e = f .before .before .before .before .before .before .before .before in
     let d = posted e in
@@ -144,24 +164,24 @@ returns-5 c =
     (permit
     (decides-at (f .is-found .ensures) (f .before .put-permission .ensures _ _ _ (ruled d) (user d) (over e) (group (climbs d)))
     .sound
-    (c .if6 .taken))))
+    (c .if7 .taken))))
 
 -- Nor is a permission found.
-abbrev climbed-3 : tie.Joined5 → tie.After-climb3
+abbrev climbed-3 : tie.Joined6 → tie.After-climb3
 climbed-3 c = c .before .before .before .before
 
-none : (c : tie.Joined5) → let a = start (climbs (posted (climbed-3 c))) .args in LacksPut (view (a .p)) (a .u) (a .x) (a .g) → ⊥
+none : (c : tie.Joined6) → let a = start (climbs (posted (climbed-3 c))) .args in LacksPut (view (a .p)) (a .u) (a .x) (a .g) → ⊥
 none c =
     let e = climbed-3 c in
     let d = posted e in
     let q = climbs d in
     let k = e .before .before .before in
     let m = k .before .before .before .before in
-    let grows = refuted (m .before .posts-grow .ensures) (m .if3 .left) in
+    let grows = refuted (m .before .posts-grow .ensures) (m .if4 .left) in
     none-lacks-put
     (λ l. grows (inl (lacks-grows _ (posts d .owner) (object q) (group q) l)))
     (λ l. grows (inr (lacks-grows _ (posts d .manager) (object q) (group q) l)))
-    (refuted (k .before .pairs-come .ensures _ _ _ (heard d) (object q) (group q)) (k .if4 .left))
+    (refuted (k .before .pairs-come .ensures _ _ _ (heard d) (object q) (group q)) (k .if5 .left))
     (λ l.
     ⊎-elim
     (λ w. refuted (decides-at (w .4 .ensures) (w .3 .ensures _ _ _ (ruled d) (user d) (over e) (group q))) (w .5 .left) l)
@@ -169,34 +189,38 @@ none c =
     refuted
     (c .before .rules-open .ensures)
     (w .left)
-    (lacks-permit-opens _ (user d) (over e) (object q) (group q) (c .before .before .before .has .ensures)
+    (lacks-permit-opens _ (user d) (over e) (object q) (group q)
+    (has-of _ _ (c .before .before .before .has2 .ensures) (omega arith) (omega arith))
     (c .before .before .only-if .ensures)
+    (omega (arith, and-comm (q .climb2 .result) (2 ^ 64 - 1 - q .before .before .before .climb .result)))
     l))
-    (c .if5 .came))
-
-returns-6 : tie.Need-returns-6
-returns-6 c =
-    let j = c .before .before in
-    let d = posted (climbed-3 j) in
-    let q = climbs d in
-    given-over _ _ _
-    (gains-not d (none j))
-    (put-hand-over _ (sized (start q)) _ _ _ (fits q .0) (fits q .1) false
-    (decides-none (λ l. l .not-own (held-had _ (posts d .owner) (object q) (c .if7 .taken)))))
-    refl
+    (c .if6 .came))
 
 returns-7 : tie.Need-returns-7
 returns-7 c =
+    let j = c .before .before in
+    let d = posted (climbed-3 j) in
+    let q = climbs d in
+    let same = and-comm (d .posts-of .result .owner) (q .before .before .before .climb .result) in
+    given-over _ _ _
+    (gains-not d (none j))
+    (put-hand-over _ (sized (start q)) _ _ _ (fits q .0) (fits q .1) false
+    (decides-none (λ l. l .not-own (held-had _ (posts d .owner) (object q) (λ e. c .if8 .taken (omega (arith, e, same)))))))
+    refl
+
+returns-8 : tie.Need-returns-8
+returns-8 c =
     let h = c .before in
     let t = h .before .before in
     let j = t .before .before in
     let d = posted (climbed-3 j) in
     let q = climbs d in
+    let same = and-comm (d .posts-of .result .owner) (q .before .before .before .climb .result) in
     given-over _ _ _
     (gains-not d (none j))
     (put-hand-over _ (sized (start q)) _ _ _ (fits q .0) (fits q .1) _
     (over-decides _
-    (held-lacked _ (posts d .owner) (object q) .sound (eq-eqb _ _ (t .if7 .left)))
+    (held-none _ (posts d .owner) (object q) (omega (arith, t .if8 .left, same)))
     (h .hands-over2 .ensures _ _ _ refl refl (object q) (group q))))
     (c .handed2 .ensures)
 
@@ -214,18 +238,20 @@ put-gives-spec =
     (λ c κs. search needs)
     returns-2
     (λ c κs. search needs)
-    (λ c κs. search needs)
     returns-3
+    (λ c κs. search needs)
     (λ c κs. search needs)
     returns-4
     (λ c κs. search needs)
-    (λ c κs. search needs)
-    (λ c κs. search needs)
-    (λ c κs. search needs)
-    (λ c κs. search needs)
-    (λ c κs. search needs)
     returns-5
+    (λ c κs. search needs)
+    (λ c κs. search needs)
+    (λ c κs. search needs)
+    (λ c κs. search needs)
+    (λ c κs. search needs)
+    (λ c κs. search needs)
     returns-6
+    returns-7
     (λ c κs. search needs)
     (λ c κs. search needs)
-    returns-7)
+    returns-8)

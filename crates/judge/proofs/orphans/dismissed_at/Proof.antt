@@ -8,11 +8,11 @@ use borrow.Author.Needs.{needs}
 use Rattle.judge.proofs.orphans.dismissed_at.Statement.{statement}
 use Rattle.judge.proofs.orphans.dismissed_at.Tie as tie
 
-returns : tie.Need-returns
-returns c =
+returns-2 : tie.Need-returns-2
+returns-2 c =
     let a = c .before .args in
     let long : length (a .t1) ≡ 32 = search (needs, length-mapped) in
-    sym (set-out (a .t1) (a .i) _ (omega (arith, long, c .if1 .taken)))
+    sym (set-out (a .t1) (a .i) _ (omega (arith, long, c .if1 .left)))
 
 pub dismissed-at-spec : {M : Type 1} → statement M
-dismissed-at-spec = tie.close (tie.spec returns (λ c. search needs) (λ c. search needs) (λ c. search needs))
+dismissed-at-spec = tie.close (tie.spec (λ c. search needs) (λ c. search needs) (λ c. search needs) returns-2)

@@ -47,7 +47,7 @@ moved : (c : tie.After-read-after Inv-loop μ-loop) → c .read-after .result �
 moved c = simp (c .read-after .ensures, found (told c) .starts, record-at (told c))
 
 loop-holds : tie.Need-loop-holds Inv-loop μ-loop
-loop-holds c = reporting-start _ _ _
+loop-holds c = reporting-start _ _ _ (omega arith)
 
 sub-judge : tie.Need-sub-judge Inv-loop μ-loop
 sub-judge c = omega (arith, found c)
@@ -73,7 +73,7 @@ handed-back c =
     let answered = coded .before .judge .ensures .1 in
     ⊎-elim
     (λ w. w .2)
-    (λ w. w .1 ∙ sym (answered .refusal-keeps (λ e. w .0 .left (coded .code-of .ensures ∙ e))))
+    (λ w. w .1 ∙ sym (answered .refusal-keeps (λ e. omega (arith, e, coded .code-of .ensures, w .0 .left))))
     (c .if1 .came)
 
 loop-again : tie.Need-loop-again Inv-loop μ-loop
@@ -98,6 +98,7 @@ returns c =
     let torn = put .before .before in
     let read = torn .before .before in
     reporting-torn _ _ _ (read .before .loop .inv) (sym (read .read-at .ensures) ∙ torn .enum-told .given .1) (put .put-line2 .ensures)
+    (omega arith) (omega arith)
 
 same-length-2 : tie.Need-same-length-2 Inv-loop μ-loop
 same-length-2 c = c .before .before .before .loop .inv .wrote .length-kept

@@ -47,7 +47,7 @@ handed-back c =
     let answered = one-answer _ _ _ (coded .before .judge-part .ensures) in
     ⊎-elim
     (λ w. w .2)
-    (λ w. w .1 ∙ sym (answered .refusal-keeps (λ e. w .0 .left (coded .code-of .ensures ∙ e))))
+    (λ w. w .1 ∙ sym (answered .refusal-keeps (λ e. omega (arith, e, coded .code-of .ensures, w .0 .left))))
     (c .if3 .came)
 
 loop-again : tie.Need-loop-again Inv-loop μ-loop
@@ -61,6 +61,8 @@ loop-again c =
     (coded .code-of .ensures)
     (c .cited-of .ensures)
     (handed-back joined)
+    (omega arith)
+    (omega arith)
 
 same-length : tie.Need-same-length Inv-loop μ-loop
 same-length c = running-codes _ _ _ _ _ (c .before .loop .inv)

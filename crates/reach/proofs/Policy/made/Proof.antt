@@ -26,14 +26,6 @@ Inv-loop x sort g self₀ i₀ self i = (i ≤ 64) × (self ≡ withMembers self
 abbrev μ-loop : tie.MeasureT-loop
 μ-loop x sort g self₀ i₀ self i = 64 - i
 
-returns : tie.Need-returns Inv-loop μ-loop
-unfolding made
-returns c = rw (le-ltb _ _ (c .if1 .taken))
-
-returns-2 : tie.Need-returns-2 Inv-loop μ-loop
-unfolding made
-returns-2 c = rw (lt-ltb _ _ (c .before .if1 .left), le-ltb _ _ (c .if2 .taken))
-
 loop-holds : tie.Need-loop-holds Inv-loop μ-loop
 loop-holds c = (search needs, refl)
 
@@ -50,9 +42,9 @@ loop-again c =
           ∙ ap (withMembers (a .t1)) (map-to-next (masked (a .x)) (l .loop .i) (a .t1 .memberships)))),
     )
 
-returns-3 : tie.Need-returns-3 Inv-loop μ-loop
+returns : tie.Need-returns Inv-loop μ-loop
 unfolding made
-returns-3 c =
+returns c =
     let l = c .before .before in
     let t = l .before in
     let a = t .before .before .args in
@@ -69,7 +61,15 @@ returns-3 c =
     (set (set (p .memberships) (a .x) 0) (a .x) (bitOr (getD (set (p .memberships) (a .x) 0) (a .x) 0) ((1 * 2 ^ a .g) % 2 ^ 64))))
     (set (p .sorts) (a .x) (a .sort)))
     (l .loop .inv .1 ∙ ap (withMembers (a .t1)) rows)
-    ∙ rw (lt-ltb _ _ x, lt-ltb _ _ (t .if2 .left), or-is-with (a .g) _ (search needs))
+    ∙ rw (lt-ltb _ _ x, lt-ltb _ _ (t .if2 .taken), or-is-with (a .g) _ (search needs))
+
+returns-2 : tie.Need-returns-2 Inv-loop μ-loop
+unfolding made
+returns-2 c = rw (lt-ltb _ _ (c .before .if1 .taken), le-ltb _ _ (c .if2 .left))
+
+returns-3 : tie.Need-returns-3 Inv-loop μ-loop
+unfolding made
+returns-3 c = rw (le-ltb _ _ (c .if1 .left))
 
 pub made-spec : {M : Type 1} → statement M
 made-spec =
@@ -77,8 +77,6 @@ made-spec =
     (tie.spec
     Inv-loop
     μ-loop
-    returns
-    returns-2
     loop-holds
     (λ c. search needs)
     (λ c. search needs)
@@ -96,4 +94,6 @@ made-spec =
     (λ c. search needs)
     (λ c. search needs)
     (λ c. search needs)
+    returns
+    returns-2
     returns-3)

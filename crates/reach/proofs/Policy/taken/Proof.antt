@@ -11,29 +11,29 @@ use Rattle.reach.proofs.Policy.taken.Tie as tie
 
 returns : tie.Need-returns
 unfolding taken
-returns c = rw (le-ltb _ _ (c .if1 .taken))
-
-returns-2 : tie.Need-returns-2
-unfolding taken
-returns-2 c = rw (lt-ltb _ _ (c .before .if1 .left), le-ltb _ _ (c .if2 .taken))
-
-returns-3 : tie.Need-returns-3
-unfolding taken
-returns-3 c =
+returns c =
     let t = c .before in
     let a = t .before .before .args in
     let fits : Fits w64 (getD (a .t1 .memberships) (a .x) 0) = search needs in
-    rw (lt-ltb _ _ (t .before .if1 .left), lt-ltb _ _ (t .if2 .left), and-is-without (a .g) (getD (a .t1 .memberships) (a .x) 0) (search needs) (fits .fits))
+    rw (lt-ltb _ _ (t .before .if1 .taken), lt-ltb _ _ (t .if2 .taken), and-is-without (a .g) (getD (a .t1 .memberships) (a .x) 0) (search needs) (fits .fits))
+
+returns-2 : tie.Need-returns-2
+unfolding taken
+returns-2 c = rw (lt-ltb _ _ (c .before .if1 .taken), le-ltb _ _ (c .if2 .left))
+
+returns-3 : tie.Need-returns-3
+unfolding taken
+returns-3 c = rw (le-ltb _ _ (c .if1 .left))
 
 pub taken-spec : {M : Type 1} → statement M
 taken-spec =
     tie.close
     (tie.spec
+    (λ c. search needs)
+    (λ c. search needs)
+    (λ c. search needs)
+    (λ c. search needs)
+    (λ c. search needs)
     returns
     returns-2
-    (λ c. search needs)
-    (λ c. search needs)
-    (λ c. search needs)
-    (λ c. search needs)
-    (λ c. search needs)
     returns-3)

@@ -10,20 +10,14 @@ use Rattle.reach.proofs.Policy.withdrawn.Tie as tie
 
 returns : tie.Need-returns
 unfolding ruled
-returns c =
-    let a = c .before .args in
-    let long : length (a .t1 .rules) ≡ 64 = search (needs, length-mapped) in
-    rw (set-past (a .t1 .rules) (a .i) _ (omega (arith, long, c .if1 .taken)))
+returns c = search needs
 
 returns-2 : tie.Need-returns-2
 unfolding ruled
-returns-2 c = search needs
+returns-2 c =
+    let a = c .before .args in
+    let long : length (a .t1 .rules) ≡ 64 = search (needs, length-mapped) in
+    rw (set-past (a .t1 .rules) (a .i) _ (omega (arith, long, c .if1 .left)))
 
 pub withdrawn-spec : {M : Type 1} → statement M
-withdrawn-spec =
-    tie.close
-    (tie.spec
-    returns
-    (λ c. search needs)
-    (λ c. search needs)
-    returns-2)
+withdrawn-spec = tie.close (tie.spec (λ c. search needs) (λ c. search needs) returns returns-2)

@@ -1,53 +1,83 @@
--- Both sets are unions over the places of the table, and the test of the pair is taken on from place to place.
+-- The places that u holds are gone through, the lowest first: both sets, and the test of the pair, have what was seen by then.
 use native.Mathlib.Omega.{arith}
 use mathlib.Core.Path.{_≡_}
-use Prim.Native.Nat.{_-_, _≤_}
+use Prim.Native.Nat.{_<_}
+use lib.Count.{trailingZeros}
 use lib.ListN.{getD}
-use Rattle.reach.specs.Tests.{Some, Decides}
+use Rattle.reach.specs.Words.{bit}
+use Rattle.reach.specs.Tests.{Decides}
 use Rattle.reach.specs.Tables.{noAppointment}
 use Rattle.reach.specs.Privileges.{owner, manager}
 use Rattle.reach.specs.Asking.{CoversPair}
-use Rattle.reach.proofs.Testing.{decides-some-start, decides-some-next, decides-some-end}
-use Rattle.reach.proofs.Unions.{Union, union-none, union-add, union-end}
-use Rattle.reach.proofs.Posting.{Posted, of-kind, appointed-over}
+use Rattle.reach.proofs.Bits.{lowest-bit}
+use Rattle.reach.proofs.Marking.{Marked, mark-start, mark-less, mark-step, SeenSet, seen-set-start, seen-set-step, seen-set-end}
+use Rattle.reach.proofs.Marking.{Seen, seen-test-start, seen-test-step, seen-test-end}
+use Rattle.reach.proofs.Posting.{Posted, held-posted, held-pair, appointed-over}
 use borrow.Author.Needs.{needs}
 use Rattle.reach.proofs.appointments.given_to.Statement.{statement}
 use Rattle.reach.proofs.appointments.given_to.Tie as tie
 
 abbrev Inv-loop : tie.InvT-loop
-Inv-loop u first second appointments owner₀ manager₀ pair₀ i₀ ours theirs pair i =
-    (i ≤ 32)
-    × Union (Posted appointments owner u) i ours
-    × Union (Posted appointments manager u) i theirs
-    × Decides pair (Some i (λ j. CoversPair (getD appointments j noAppointment) u first second))
+Inv-loop u first second appointments owner₀ manager₀ pair₀ left₀ ours theirs pair left =
+    Marked (λ j. getD appointments j noAppointment .holder ≡ u) left
+    × SeenSet (Posted appointments owner u) left ours
+    × SeenSet (Posted appointments manager u) left theirs
+    × Decides pair (Seen left (λ j. CoversPair (getD appointments j noAppointment) u first second))
 
 abbrev μ-loop : tie.MeasureT-loop
-μ-loop u first second appointments owner₀ manager₀ pair₀ i₀ ours theirs pair i = 32 - i
+μ-loop u first second appointments owner₀ manager₀ pair₀ left₀ ours theirs pair left = left
+
+low : (c : tie.In-loop Inv-loop μ-loop)
+    → (trailingZeros 32 (c .before .loop .left) < 32) × (bit (c .before .loop .left) (trailingZeros 32 (c .before .loop .left)) ≡ 1)
+low c = lowest-bit 32 _ (c .loop-test .taken) (c .before .loop .inv .0 .word)
 
 loop-holds : tie.Need-loop-holds Inv-loop μ-loop
-loop-holds c = (search needs, union-none _, union-none _, decides-some-start)
+loop-holds c =
+    let h = c .held-by .ensures in (
+      mark-start h (search needs) (λ j e. e),
+      seen-set-start _ h (λ j a v. v .1 .is-holder),
+      seen-set-start _ h (λ j a v. v .1 .is-holder),
+      seen-test-start _ h (λ j v. v .is-holder),
+    )
+
+cast-i : tie.Need-cast-i Inv-loop μ-loop
+cast-i c = omega (arith, low c .0)
+
+mul-w : tie.Need-mul-w Inv-loop μ-loop
+mul-w c = omega (arith, low c .0)
 
 array-copy-out-w : tie.Need-array-copy-out-w Inv-loop μ-loop
-array-copy-out-w c = c .loop-test .taken
+array-copy-out-w c = low c .0
+
+cast-left : tie.Need-cast-left Inv-loop μ-loop
+cast-left c = omega (arith, low (c .before .before .before .before .before) .0)
+
+shl-left : tie.Need-shl-left Inv-loop μ-loop
+shl-left c = low (c .before .before .before .before .before) .0
+
+loop-less : tie.Need-loop-less Inv-loop μ-loop
+loop-less c =
+    let i = c .before .before .before .before .before in
+    mark-less (i .before .loop .inv .0) (trailingZeros 32 (i .before .loop .left)) (low i .1)
 
 loop-again : tie.Need-loop-again Inv-loop μ-loop
 loop-again c =
-    let given = c .before .before .before in
-    let l = given .before .before .before .loop in (
-      search needs,
-      union-add _ (l .inv .1) (given .given-by .ensures .0),
-      union-add _ (l .inv .2) (given .given-by .ensures .1),
-      decides-some-next _ _ (l .inv .3) (given .given-by .ensures .2),
+    let g = c .before .before .before in
+    let i = g .before .before in
+    let l = i .before .loop in
+    let h = trailingZeros 32 (l .left) in
+    let e = l .inv .0 .holds h (low i .1) in (
+      mark-step (l .inv .0) h (low i .1),
+      seen-set-step _ (l .inv .0) h (low i .1) (l .inv .1) (held-posted e (g .posts-by .ensures .0)),
+      seen-set-step _ (l .inv .0) h (low i .1) (l .inv .2) (held-posted e (g .posts-by .ensures .1)),
+      seen-test-step _ _ _ (l .inv .0) h (low i .1) (l .inv .3) (held-pair e (c .pair-by .ensures)),
     )
 
 returns : tie.Need-returns Inv-loop μ-loop
 returns c =
     let l = c .before .loop in
-    let e : l .i ≡ 32 = omega (arith, c .loop-test .left, l .inv .0) in (
-      appointed-over (union-end _ 32 (l .inv .1) e),
-      appointed-over (union-end _ 32 (l .inv .2) e),
-      decides-some-end 32 (l .inv .3) e,
-    )
+    let z = c .loop-test .left in
+    (appointed-over (seen-set-end _ (l .inv .1) z), appointed-over (seen-set-end _ (l .inv .2) z), seen-test-end _ (l .inv .3) z)
 
 pub given-to-spec : {M : Type 1} → statement M
 given-to-spec =
@@ -55,11 +85,15 @@ given-to-spec =
     (tie.spec
     Inv-loop
     μ-loop
+    (λ c κs. search needs)
     loop-holds
-    (λ c. search needs)
+    cast-i
+    mul-w
     array-copy-out-w
     (λ c κs. search needs)
-    (λ c. search needs)
-    (λ c. search needs)
+    (λ c κs. search needs)
+    cast-left
+    shl-left
+    loop-less
     loop-again
     returns)

@@ -1,40 +1,74 @@
--- Both sets are unions over the places of the table.
+-- The places that u holds are gone through, the lowest first: both sets have what was seen by then.
 use native.Mathlib.Omega.{arith}
 use mathlib.Core.Path.{_≡_}
-use Prim.Native.Nat.{_-_, _≤_}
+use Prim.Native.Nat.{_<_}
+use lib.Count.{trailingZeros}
+use lib.ListN.{getD}
+use Rattle.reach.specs.Words.{bit}
+use Rattle.reach.specs.Tables.{noAppointment}
 use Rattle.reach.specs.Privileges.{owner, manager}
-use Rattle.reach.proofs.Unions.{Union, union-none, union-add, union-end}
-use Rattle.reach.proofs.Posting.{Posted, of-kind, appointed-over}
+use Rattle.reach.proofs.Bits.{lowest-bit}
+use Rattle.reach.proofs.Marking.{Marked, mark-start, mark-less, mark-step, SeenSet, seen-set-start, seen-set-step, seen-set-end}
+use Rattle.reach.proofs.Posting.{Posted, held-posted, appointed-over}
 use borrow.Author.Needs.{needs}
 use Rattle.reach.proofs.appointments.posts_of.Statement.{statement}
 use Rattle.reach.proofs.appointments.posts_of.Tie as tie
 
 abbrev Inv-loop : tie.InvT-loop
-Inv-loop u appointments owner₀ manager₀ i₀ ours theirs i =
-    (i ≤ 32) × Union (Posted appointments owner u) i ours × Union (Posted appointments manager u) i theirs
+Inv-loop u appointments owner₀ manager₀ left₀ ours theirs left =
+    Marked (λ j. getD appointments j noAppointment .holder ≡ u) left
+    × SeenSet (Posted appointments owner u) left ours
+    × SeenSet (Posted appointments manager u) left theirs
 
 abbrev μ-loop : tie.MeasureT-loop
-μ-loop u appointments owner₀ manager₀ i₀ ours theirs i = 32 - i
+μ-loop u appointments owner₀ manager₀ left₀ ours theirs left = left
+
+low : (c : tie.In-loop Inv-loop μ-loop)
+    → (trailingZeros 32 (c .before .loop .left) < 32) × (bit (c .before .loop .left) (trailingZeros 32 (c .before .loop .left)) ≡ 1)
+low c = lowest-bit 32 _ (c .loop-test .taken) (c .before .loop .inv .0 .word)
 
 loop-holds : tie.Need-loop-holds Inv-loop μ-loop
-loop-holds c = (search needs, union-none _, union-none _)
+loop-holds c =
+    let h = c .held-by .ensures in
+    (mark-start h (search needs) (λ j e. e), seen-set-start _ h (λ j a v. v .1 .is-holder), seen-set-start _ h (λ j a v. v .1 .is-holder))
 
-array-copy-out-a-of : tie.Need-array-copy-out-a-of Inv-loop μ-loop
-array-copy-out-a-of c = c .loop-test .taken
+cast-i : tie.Need-cast-i Inv-loop μ-loop
+cast-i c = omega (arith, low c .0)
 
-array-copy-out-a-of-2 : tie.Need-array-copy-out-a-of-2 Inv-loop μ-loop
-array-copy-out-a-of-2 c = c .before .before .loop-test .taken
+mul-posts-by : tie.Need-mul-posts-by Inv-loop μ-loop
+mul-posts-by c = omega (arith, low c .0)
+
+array-copy-out-posts-by : tie.Need-array-copy-out-posts-by Inv-loop μ-loop
+array-copy-out-posts-by c = low c .0
+
+cast-left : tie.Need-cast-left Inv-loop μ-loop
+cast-left c = omega (arith, low (c .before .before .before .before) .0)
+
+shl-left : tie.Need-shl-left Inv-loop μ-loop
+shl-left c = low (c .before .before .before .before) .0
+
+loop-less : tie.Need-loop-less Inv-loop μ-loop
+loop-less c =
+    let i = c .before .before .before .before in
+    mark-less (i .before .loop .inv .0) (trailingZeros 32 (i .before .loop .left)) (low i .1)
 
 loop-again : tie.Need-loop-again Inv-loop μ-loop
 loop-again c =
-    let l = c .before .before .before .before .before .loop in
-    (search needs, union-add _ (l .inv .1) (of-kind (c .before .before .a-of .ensures) (omega arith)), union-add _ (l .inv .2) (of-kind (c .a-of2 .ensures) (omega arith)))
+    let g = c .before .before in
+    let i = g .before .before in
+    let l = i .before .loop in
+    let h = trailingZeros 32 (l .left) in
+    let e = l .inv .0 .holds h (low i .1) in (
+      mark-step (l .inv .0) h (low i .1),
+      seen-set-step _ (l .inv .0) h (low i .1) (l .inv .1) (held-posted e (g .posts-by .ensures .0)),
+      seen-set-step _ (l .inv .0) h (low i .1) (l .inv .2) (held-posted e (g .posts-by .ensures .1)),
+    )
 
 returns : tie.Need-returns Inv-loop μ-loop
 returns c =
     let l = c .before .loop in
-    let e : l .i ≡ 32 = omega (arith, c .loop-test .left, l .inv .0) in
-    record { owner = appointed-over (union-end _ 32 (l .inv .1) e); manager = appointed-over (union-end _ 32 (l .inv .2) e) }
+    let z = c .loop-test .left in
+    record { owner = appointed-over (seen-set-end _ (l .inv .1) z); manager = appointed-over (seen-set-end _ (l .inv .2) z) }
 
 pub posts-of-spec : {M : Type 1} → statement M
 posts-of-spec =
@@ -42,14 +76,14 @@ posts-of-spec =
     (tie.spec
     Inv-loop
     μ-loop
+    (λ c κs. search needs)
     loop-holds
-    (λ c. search needs)
-    array-copy-out-a-of
+    cast-i
+    mul-posts-by
+    array-copy-out-posts-by
     (λ c κs. search needs)
-    (λ c. search needs)
-    array-copy-out-a-of-2
-    (λ c κs. search needs)
-    (λ c. search needs)
-    (λ c. search needs)
+    cast-left
+    shl-left
+    loop-less
     loop-again
     returns)

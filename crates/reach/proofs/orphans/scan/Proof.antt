@@ -1,8 +1,10 @@
 -- After x objects what is found out is that of the objects below x. Each way through a turn is one law: the object is not in use, or it is
 -- left, or it is found owned, and is a group or not.
 use native.Mathlib.Omega.{arith}
+use mathlib.Core.Logic.{inl, inr, ⊎-elim}
 use Prim.Native.Nat.{_-_, _≤_}
-use Rattle.reach.specs.Asking.{Looking}
+use denote.Ref.{now}
+use Rattle.reach.specs.Asking.{UnderSomeBy, Looking}
 use Rattle.reach.proofs.Owning.{in-use-byte, unused-zero, unused-unknown, look-start, look-met, look-not, grown-group, grown-other}
 use Rattle.reach.proofs.Owning.{look-empty, look-left, look-owned, look-over}
 use borrow.Author.Needs.{needs}
@@ -32,27 +34,35 @@ loop-again-2 c =
 
 loop-again-3 : tie.Need-loop-again-3 Inv-loop μ-loop
 loop-again-3 c =
-    let f = c .before .before in
+    let f = c .before .before .before in
     let t = f .before .before .before in
     let k = t .before .loop .inv .1 in
     let low = t .loop-test .taken in
-    (search needs, look-left k low (in-use-byte _ _ _ low (f .before .if1 .left) (f .if2 .left)) (look-not k _ low (c .if3 .taken)))
+    (search needs, look-left k low (in-use-byte _ _ _ low (f .before .if1 .left) (f .if2 .left)) (look-not k _ (omega (arith, c .if4 .taken))))
+
+-- The object is owned: its row meets the groups, or the set has it.
+owned : (c : tie.Joined3 Inv-loop μ-loop) → let l = c .before .before .before .before .before .before .loop in
+    UnderSomeBy (now (c .before .before .before .before .before .before .before .args .sorts))
+    (now (c .before .before .before .before .before .before .before .args .memberships))
+    (c .before .before .before .before .before .before .before .args .set)
+    (l .x)
+owned c =
+    let f = c .before .before in
+    let t = f .before .before .before in
+    let low = t .loop-test .taken in
+    look-met (t .before .loop .inv .1) _ low (in-use-byte _ _ _ low (f .before .if1 .left) (f .if2 .left))
+    (⊎-elim (λ w. inr (w .1 .left)) (λ w. inl (w .left)) (c .if3 .came))
 
 loop-again-4 : tie.Need-loop-again-4 Inv-loop μ-loop
 loop-again-4 c =
-    let f = c .before .before .before in
-    let t = f .before .before .before in
-    let k = t .before .loop .inv .1 in
-    let low = t .loop-test .taken in
-    (search needs, look-owned k (grown-other k _ (c .if4 .taken) (look-met k _ low (in-use-byte _ _ _ low (f .before .if1 .left) (f .if2 .left)) (c .before .if3 .left))))
+    let k = c .before .before .before .before .before .before .before .loop .inv .1 in
+    (search needs, look-owned k (grown-other k _ (c .if5 .taken) (owned (c .before))))
 
 loop-again-5 : tie.Need-loop-again-5 Inv-loop μ-loop
 loop-again-5 c =
-    let f = c .before .before .before in
-    let t = f .before .before .before in
+    let t = c .before .before .before .before .before .before in
     let k = t .before .loop .inv .1 in
-    let low = t .loop-test .taken in
-    (search needs, look-owned k (grown-group k _ low (c .if4 .left) (look-met k _ low (in-use-byte _ _ _ low (f .before .if1 .left) (f .if2 .left)) (c .before .if3 .left))))
+    (search needs, look-owned k (grown-group k _ (t .loop-test .taken) (c .if5 .left) (owned (c .before))))
 
 returns : tie.Need-returns Inv-loop μ-loop
 returns c = let l = c .before .loop in look-over (l .inv .1) (omega (arith, l .inv .0, c .loop-test .left))
@@ -76,10 +86,12 @@ scan-spec =
     (λ c. search needs)
     (λ c. search needs)
     (λ c. search needs)
+    (λ c. search needs)
     loop-again-3
     (λ c. search needs)
     (λ c. search needs)
     loop-again-4
+    (λ c. search needs)
     (λ c. search needs)
     (λ c. search needs)
     loop-again-5
