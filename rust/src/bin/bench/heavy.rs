@@ -65,6 +65,64 @@ fn records() -> [(Vec<u8>, u8); 8] {
     ]
 }
 
+/// The chain the other way round, each group in the one of the next number: what goes through the
+/// objects from the lowest number on finds one group a round.
+fn rising() -> Sheet {
+    let mut sheet = policy(0);
+    for group in FIRST..=LAST {
+        sheet.members[group as usize] = if group == FIRST { 0 } else { 1 << (group - 1) };
+    }
+    sheet.members[FIRST as usize] = 1 << SENDER;
+    sheet.members[ROOT as usize] = 1 << SENDER | 1 << RADIO | 1 << LAST;
+    sheet
+}
+
+/// An administrator of everything, who has twenty-seven more such appointments, of the groups of
+/// the chain and its last one: the object that is put into the last group comes to be under all.
+fn pairs() -> Sheet {
+    let mut sheet = policy(0);
+    for place in 4..WARRANT {
+        sheet.warrants[place as usize] = Warrant {
+            kind: ADMINISTRATOR,
+            holder: SENDER,
+            a: FIRST + place,
+            b: LAST,
+        };
+    }
+    sheet
+}
+
+/// A torn record, a TAKE from the chain the other way round, and a PUT that brings pairs.
+pub fn measure_dearest() -> Vec<Row> {
+    let row = |name: &str, sheet: Sheet, record: Vec<u8>| Row {
+        name: name.into(),
+        times: vec![call(&sheet, &TORN, 1), call(&sheet, &record, 0)],
+    };
+    vec![
+        row(
+            "TAKE, a chain whose numbers rise",
+            rising(),
+            record(3, SENDER, &[SENDER, ROOT]),
+        ),
+        row(
+            "PUT, twenty-seven pairs",
+            pairs(),
+            record(2, SENDER, &[RADIO, LAST]),
+        ),
+    ]
+}
+
+pub fn print_dearest(rows: &[Row]) {
+    println!("## The dearest found\n");
+    println!("Board / fast on policies that are built for one request each.\n");
+    println!("| Request | Time |");
+    println!("|---|--:|");
+    for row in rows {
+        row.print_net();
+    }
+    println!();
+}
+
 /// For each number of rules: a torn record, and one of each kind.
 pub fn measure() -> Vec<Row> {
     let row = |rules: usize| {

@@ -26,6 +26,7 @@ fn main() {
         kinds::measure,
         growth::measure,
         heavy::measure,
+        heavy::measure_dearest,
         cards::measure,
     ];
     let mut shortest = tables.map(|measure| measure());
@@ -34,7 +35,7 @@ fn main() {
             keep_shorter(rows, measure());
         }
     }
-    let [streams, kinds, growth, heavy, cards] = shortest;
+    let [streams, kinds, growth, heavy, dearest, cards] = shortest;
     println!(
         "Nanoseconds, the best of {} turns.\n",
         PASSES * ROUNDS * SHIFTS
@@ -43,6 +44,7 @@ fn main() {
     kinds::print(&kinds);
     growth::print(&growth);
     heavy::print(&heavy);
+    heavy::print_dearest(&dearest);
     cards::print(&cards);
     stack::print();
 }
