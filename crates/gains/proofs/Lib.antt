@@ -15,5 +15,6 @@ pub mod FirstFound
 pub mod Searched
 pub mod Looking
 pub mod Lending
+pub mod PutSides
 pub mod Covering
 pub mod Verdicts

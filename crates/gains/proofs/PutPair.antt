@@ -3,13 +3,10 @@
 use mathlib.Core.Path.{_≡_, refl, sym, subst}
 use mathlib.Core.Logic.{_⊎_, inl, inr, ⊎-elim}
 use mathlib.Core.Bool.{Bool, true, false}
-use mathlib.Core.List.{List}
 use Prim.Native.Nat.{ℕ, _<_}
-use lib.ListN.{getD}
 use Rattle.reach.specs.declared.Policy.{Policy}
-use Rattle.reach.specs.declared.Appointment.{Appointment}
 use Rattle.reach.specs.Tests.{Some, Decides}
-use Rattle.reach.specs.Tables.{noAppointment, View, view}
+use Rattle.reach.specs.Tables.{View, view}
 use Rattle.reach.specs.Reach.{InUse, Group, User, Under, itself}
 use Rattle.reach.specs.Privileges.{administrator, AdministersBy, Administers}
 use Rattle.reach.specs.Changes.{viewPut}
@@ -18,9 +15,7 @@ use Rattle.reach.proofs.Frames.{put-keeps, put-adds, put-adds-only}
 use Rattle.reach.proofs.Testing.{refuted}
 use Rattle.reach.proofs.Deciding.{administers-decides}
 use Rattle.gains.specs.Lacking.{LacksA, LacksB, LacksPairBy, LacksPair}
-use Rattle.gains.specs.Lending.{Heard}
 use Rattle.gains.proofs.Downward.{administers-down}
-use Rattle.gains.proofs.Lending.{appointment-lent}
 
 -- A pair that he has after a change and lacked before.
 pub record PairGained (v n : View) (u a b : ℕ) : Type 0 where
@@ -158,32 +153,3 @@ decided false d = no (refuted d refl)
 
 pub administers-decided : (p : Policy) (u a b : ℕ) → Dec (Administers (view p) u a b)
 administers-decided p u a b = decided _ (administers-decides p u a b)
-
--- ---- One place of the table that is handed on
-
--- A side that is above g and not above x, and the pair of x and the other side that he lacks.
-pub side-a : {v : View} {u x g a b : ℕ} → Under v g a × (Under v x a → ⊥) → InUse v b × (Administers v u x b → ⊥) → LacksA v u x g a b
-side-a s o = record { above = s .0; not-above = s .1; other = o .0; lacks = o .1 }
-
-pub side-b : {v : View} {u x g a b : ℕ} → Under v g b × (Under v x b → ⊥) → InUse v a × (Administers v u a x → ⊥) → LacksB v u x g a b
-side-b s o = record { above = s .0; not-above = s .1; other = o .0; lacks = o .1 }
-
--- What is told of its holder is told of u, if he is the holder.
-pub told-of-holder : (p : Policy) {s m : List ℕ} {l : List Appointment} {h u x g a b : ℕ} {t : Bool} → h ≡ u
-    → (Heard p s m l h → Decides t (LacksA (view p) h x g a b ⊎ LacksB (view p) h x g a b)) → Heard p s m l u
-    → Decides t (LacksA (view p) u x g a b ⊎ LacksB (view p) u x g a b)
-told-of-holder p {s} {m} {l} {x = x} {g = g} {a = a} {b = b} {t = t} e d k =
-    subst (λ (h : ℕ). Heard p s m l h → Decides t (LacksA (view p) h x g a b ⊎ LacksB (view p) h x g a b)) e d k
-
-module _ (p : Policy) (u x g i : ℕ) {l : List Appointment} (e : p .appointments ≡ l) where
-  -- This appointment is an administrator's, his, and one of its sides tells.
-  abbrev pub TellsPair : Appointment → Type 0
-  TellsPair w =
-      ((w .kind ≡ administrator) × (w .holder ≡ u)) × (LacksA (view p) u x g (w .a) (w .b) ⊎ LacksB (view p) u x g (w .a) (w .b))
-
-  pub lacks-pair-here : TellsPair (getD l i noAppointment) → LacksPairBy (view p) u x g i
-  lacks-pair-here h =
-      let w = subst TellsPair (sym (appointment-lent p e i)) h in record { is-kind = w .0 .0; is-holder = w .0 .1; side = w .1 }
-
-  pub lacks-pair-not : (TellsPair (getD l i noAppointment) → ⊥) → LacksPairBy (view p) u x g i → ⊥
-  lacks-pair-not n w = n (subst TellsPair (appointment-lent p e i) ((w .is-kind, w .is-holder), w .side))

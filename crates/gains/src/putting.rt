@@ -9,7 +9,7 @@ ghost use Rattle.reach.specs.Reach.{InUse};
 ghost use Rattle.reach.specs.Privileges.{Administers};
 ghost use Rattle.rules.specs.declared.Request.the-variants.{Put};
 ghost use Rattle.gains.specs.Giving.{givenBy};
-ghost use Rattle.gains.specs.Lacking.{Grows, LacksA, LacksB, LacksPair, Above, Opened};
+ghost use Rattle.gains.specs.Lacking.{Grows, LacksPair, Above};
 ghost use Rattle.gains.specs.Lending.{Heard};
 use crate::handing::handed;
 use crate::handing::hands_over;
@@ -23,8 +23,10 @@ use reach::Posts;
 use reach::climb;
 use reach::covers_pair;
 use reach::has;
+use reach::not_under;
 use reach::only_if;
 use reach::posts_of;
+use reach::sides_of;
 use reach::sort_in;
 use rules::Verdict;
 
@@ -47,51 +49,8 @@ pub fn lacks_first<'a>(
     !covers_pair(appointments, u, object, over)
 }
 
-// The same with the sides exchanged.
-fn lacks_second<'a>(
-    sorts: &'a [u8; 64],
-    memberships: &'a [u64; 64],
-    appointments: [Appointment; 32],
-    u: u8,
-    a: u8,
-    object: u64,
-) -> bool
-    ensures { λ r. ⌜ ((p : Policy) (x : ℕ) → Heard p (now (sorts .entry)) (now (memberships .entry)) appointments u → Above p x object →
-        Decides r (InUse (view p) a × (Administers (view p) u a x → ⊥))) ⌝ }
-{
-    let over = climb(sorts, memberships, a);
-    if over == 0 {
-        return false;
-    }
-    !covers_pair(appointments, u, over, object)
-}
-
-// Whether the holder of this administrator's appointment comes to administer a pair by it: one of its sides is opened, and he lacks the pair
-// of the object and the other side.
-fn pair_comes<'a>(
-    sorts: &'a [u8; 64],
-    memberships: &'a [u64; 64],
-    appointments: [Appointment; 32],
-    w: Appointment,
-    object: u64,
-    opened: u64,
-) -> bool
-    ensures { λ r. ⌜ ((p : Policy) (x g : ℕ) → Heard p (now (sorts .entry)) (now (memberships .entry)) appointments (w .holder) →
-        Above p x object → Opened p x g opened →
-        Decides r (LacksA (view p) (w .holder) x g (w .a) (w .b) ⊎ LacksB (view p) (w .holder) x g (w .a) (w .b))) ⌝ }
-{
-    if has(opened, w.a) {
-        if lacks_first(sorts, memberships, appointments, w.holder, w.b, object) {
-            return true;
-        }
-    }
-    if !has(opened, w.b) {
-        return false;
-    }
-    lacks_second(sorts, memberships, appointments, w.holder, w.a, object)
-}
-
-// Whether u comes to administer a pair by one of his appointments.
+// Whether u comes to administer a pair by one of his appointments: one of its sides is opened, and the other is in use and not under a side
+// that he holds with the object.
 fn pairs_come<'a>(
     sorts: &'a [u8; 64],
     memberships: &'a [u64; 64],
@@ -103,20 +62,15 @@ fn pairs_come<'a>(
     ensures { λ r. ⌜ ((p : Policy) (x g : ℕ) → Heard p (now (sorts .entry)) (now (memberships .entry)) appointments u →
         Above p x object → Above p g group → Decides r (LacksPair (view p) u x g)) ⌝ }
 {
-    let opened = group & !object;
-    let mut i: usize = 0;
-    while i < 32 {
-        let w = appointments[i];
-        if w.holder == u {
-            if w.kind == 3 {
-                if pair_comes(sorts, memberships, appointments, w, object, opened) {
-                    return true;
-                }
-            }
-        }
-        i += 1;
+    let opened = sides_of(appointments, u, group & !object);
+    if opened.first | opened.second == 0 {
+        return false;
     }
-    false
+    let held = sides_of(appointments, u, object);
+    if not_under(sorts, memberships, opened.second, held.second) != 0 {
+        return true;
+    }
+    not_under(sorts, memberships, opened.first, held.first) != 0
 }
 
 // Whether what he is appointed over, as an owner or as a manager, has something above the group and nothing above the object.

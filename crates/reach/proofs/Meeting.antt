@@ -15,7 +15,7 @@ use Rattle.reach.specs.Tests.{lowestOr, lowest, Some, Decides}
 use Rattle.reach.specs.Tables.{sortIn, sort, noAppointment, noRule, appointment, rule, view}
 use Rattle.reach.specs.Reach.{InUse, Group, User, Target, Under, under}
 use Rattle.reach.specs.Privileges.{owner, Holds, Administers, Permitted, permitsBy, askable, administers, permitting}
-use Rattle.reach.specs.Asking.{UnderBy, AppointedOver, PostsIn, HeldOver, PostsOf, CoversPair, HasB, coveredBy, HasT}
+use Rattle.reach.specs.Asking.{UnderBy, AppointedOver, PostsIn, HeldOver, PostsOf, CoversPair, HasB, HasFirst, coveredBy, HasT}
 use Rattle.reach.proofs.Testing.{decides-as, decides-eqb, decides-not, decides-same, some-map}
 use Rattle.reach.proofs.WordSets.{set-as, set-none, set-mask, has-is, decides-nonempty}
 use Rattle.reach.proofs.Reaching.{under-upper}
@@ -178,48 +178,96 @@ module _ (p : Policy) where
         (h .by)))
         (administers-decides p u a b)
 
-    pub partners-below : {bs r : ℕ} → SetOf bs (λ b. Some 32 (λ i. (b < 64) × HasB (getD (p .appointments) i noAppointment) u s b))
-        → SetOf r (λ x. Some 64 (λ g. (bit bs g ≡ 1) × Under (view p) x g)) → SetOf r (λ b. Administers (view p) u a b)
-    unfolding appointment
-    partners-below {bs} h k =
-        set-as
-        k
-        (λ b w.
-        let v = h .only (w .place) (w .at .0) in
-        record {
-          user = user;
-          by =
-              record {
-                place = v .place;
-                low = v .low;
-                at =
-                    record {
-                      is-kind = v .at .1 .is-kind;
-                      is-holder = v .at .1 .is-holder;
-                      covers-a = over .only _ (v .at .1 .in-a);
-                      covers-b = subst (Under (view p) b) (sym (v .at .1 .is-b)) (w .at .1);
-                    };
-              };
-        })
-        (λ b o.
-        let v = o .by .at in
-        let i = o .by .place in
-        record {
-          place = getD (p .appointments) i noAppointment .b;
-          low = top-below (v .covers-b);
-          at = (
-            h .all _
-                (record {
-                  place = i;
-                  low = o .by .low;
-                  at = (
-                    top-below (v .covers-b),
-                    record { is-kind = v .is-kind; is-holder = v .is-holder; in-a = over .all _ (v .covers-a); is-b = refl },
-                  );
-                }),
-            v .covers-b,
-          );
-        })
+    -- b is under the B of an appointment of his whose A is above a exactly if he administers the pair; so with the sides exchanged.
+    module _ {bs : ℕ} (h : SetOf bs (λ b. Some 32 (λ i. (b < 64) × HasB (getD (p .appointments) i noAppointment) u s b))) where
+      pub second-administers : {b : ℕ} → Some 64 (λ g. (bit bs g ≡ 1) × Under (view p) b g) → Administers (view p) u a b
+      unfolding appointment
+      second-administers {b} w =
+          let v = h .only (w .place) (w .at .0) in
+          record {
+            user = user;
+            by =
+                record {
+                  place = v .place;
+                  low = v .low;
+                  at =
+                      record {
+                        is-kind = v .at .1 .is-kind;
+                        is-holder = v .at .1 .is-holder;
+                        covers-a = over .only _ (v .at .1 .in-a);
+                        covers-b = subst (Under (view p) b) (sym (v .at .1 .is-b)) (w .at .1);
+                      };
+                };
+          }
+
+      pub administers-second : {b : ℕ} → Administers (view p) u a b → Some 64 (λ g. (bit bs g ≡ 1) × Under (view p) b g)
+      unfolding appointment
+      administers-second o =
+          let v = o .by .at in
+          let i = o .by .place in
+          record {
+            place = getD (p .appointments) i noAppointment .b;
+            low = top-below (v .covers-b);
+            at = (
+              h .all _
+                  (record {
+                    place = i;
+                    low = o .by .low;
+                    at = (
+                      top-below (v .covers-b),
+                      record { is-kind = v .is-kind; is-holder = v .is-holder; in-a = over .all _ (v .covers-a); is-b = refl },
+                    );
+                  }),
+              v .covers-b,
+            );
+          }
+
+      pub partners-below : {r : ℕ} → SetOf r (λ x. Some 64 (λ g. (bit bs g ≡ 1) × Under (view p) x g))
+          → SetOf r (λ b. Administers (view p) u a b)
+      partners-below k = set-as k (λ b w. second-administers w) (λ b o. administers-second o)
+
+    module _ {firsts : ℕ} (h : SetOf firsts (λ b. Some 32 (λ i. (b < 64) × HasFirst (getD (p .appointments) i noAppointment) u s b))) where
+      pub first-administers : {b : ℕ} → Some 64 (λ g. (bit firsts g ≡ 1) × Under (view p) b g) → Administers (view p) u b a
+      unfolding appointment
+      first-administers {b} w =
+          let v = h .only (w .place) (w .at .0) in
+          record {
+            user = user;
+            by =
+                record {
+                  place = v .place;
+                  low = v .low;
+                  at =
+                      record {
+                        is-kind = v .at .1 .is-kind;
+                        is-holder = v .at .1 .is-holder;
+                        covers-a = subst (Under (view p) b) (sym (v .at .1 .is-a)) (w .at .1);
+                        covers-b = over .only _ (v .at .1 .in-b);
+                      };
+                };
+          }
+
+      pub administers-first : {b : ℕ} → Administers (view p) u b a → Some 64 (λ g. (bit firsts g ≡ 1) × Under (view p) b g)
+      unfolding appointment
+      administers-first o =
+          let v = o .by .at in
+          let i = o .by .place in
+          record {
+            place = getD (p .appointments) i noAppointment .a;
+            low = top-below (v .covers-a);
+            at = (
+              h .all _
+                  (record {
+                    place = i;
+                    low = o .by .low;
+                    at = (
+                      top-below (v .covers-a),
+                      record { is-kind = v .is-kind; is-holder = v .is-holder; in-b = over .all _ (v .covers-b); is-a = refl },
+                    );
+                  }),
+              v .covers-a,
+            );
+          }
 
   -- ---- Permissions
 

@@ -1,5 +1,5 @@
 -- What a user is appointed over, gathered place by place of the table.
-use mathlib.Core.Path.{_≡_, refl, sym, _∙_, subst}
+use mathlib.Core.Path.{_≡_, refl, sym, ap, _∙_, subst}
 use mathlib.Core.Bool.{Bool, true}
 use mathlib.Core.List.{List}
 use Prim.Native.Nat.{ℕ, _<_}
@@ -8,8 +8,8 @@ use Rattle.reach.specs.declared.Appointment.{Appointment}
 use Rattle.reach.specs.Words.{bit, SetOf}
 use Rattle.reach.specs.Tests.{Some, Decides}
 use Rattle.reach.specs.Tables.{sortIn, noAppointment}
-use Rattle.reach.specs.Privileges.{owner}
-use Rattle.reach.specs.Asking.{HasA, AppointedOver, CoversPair, OwnersA}
+use Rattle.reach.specs.Privileges.{owner, administrator}
+use Rattle.reach.specs.Asking.{HasA, AppointedOver, CoversPair, HasB, HasFirst, OwnersA}
 use Rattle.reach.proofs.WordSets.{set-as}
 
 -- The number a of an object is the A of the appointment at place j, which is of that kind and which u holds.
@@ -40,6 +40,25 @@ owner-posted t k e y s d =
     (λ a v. (v .1 .0, record { is-kind = k; is-user = sym e ∙ v .0; is-a = v .1 .1 }))
     (λ a v. (e ∙ v .1 .is-user, (v .0, v .1 .is-a)))
 
+-- A side of one administrator's appointment, where its other side is in the set.
+pub first-posted : {s y set other : ℕ} {w : Appointment} (t : Bool) → SetOf y (λ a. (a < 64) × (w .a ≡ a))
+    → SetOf s (λ a. (t ≡ true) × (bit y a ≡ 1)) → Decides t ((w .kind ≡ administrator) × (bit set other ≡ 1)) → other ≡ w .b
+    → SetOf s (λ a. (a < 64) × HasFirst w (w .holder) set a)
+first-posted {set = set} t y s d e =
+    set-as
+    (just-if t y s d)
+    (λ a v. (v .1 .0, record { is-kind = v .0 .0; is-holder = refl; in-b = ap (bit set) (sym e) ∙ v .0 .1; is-a = v .1 .1 }))
+    (λ a v. ((v .1 .is-kind, ap (bit set) e ∙ v .1 .in-b), (v .0, v .1 .is-a)))
+
+pub second-posted : {s y set other : ℕ} {w : Appointment} (t : Bool) → SetOf y (λ b. (b < 64) × (w .b ≡ b))
+    → SetOf s (λ b. (t ≡ true) × (bit y b ≡ 1)) → Decides t ((w .kind ≡ administrator) × (bit set other ≡ 1)) → other ≡ w .a
+    → SetOf s (λ b. (b < 64) × HasB w (w .holder) set b)
+second-posted {set = set} t y s d e =
+    set-as
+    (just-if t y s d)
+    (λ b v. (v .1 .0, record { is-kind = v .0 .0; is-holder = refl; in-a = ap (bit set) (sym e) ∙ v .0 .1; is-b = v .1 .1 }))
+    (λ b v. ((v .1 .is-kind, ap (bit set) e ∙ v .1 .in-a), (v .0, v .1 .is-b)))
+
 -- What it gives its holder it gives u, who is he.
 pub held-posted : {s kind u : ℕ} {w : Appointment} → w .holder ≡ u → SetOf s (λ a. (a < 64) × HasA w kind (w .holder) a)
     → SetOf s (λ a. (a < 64) × HasA w kind u a)
@@ -48,6 +67,14 @@ held-posted {s} {kind} {u} {w} e h = subst (λ (v : ℕ). SetOf s (λ a. (a < 64
 pub held-pair : {t : Bool} {u first second : ℕ} {w : Appointment} → w .holder ≡ u → Decides t (CoversPair w (w .holder) first second)
     → Decides t (CoversPair w u first second)
 held-pair {t} {u} {first} {second} {w} e d = subst (λ (v : ℕ). Decides t (CoversPair w v first second)) e d
+
+pub held-first : {s set u : ℕ} {w : Appointment} → w .holder ≡ u → SetOf s (λ a. (a < 64) × HasFirst w (w .holder) set a)
+    → SetOf s (λ a. (a < 64) × HasFirst w u set a)
+held-first {s} {set} {u} {w} e h = subst (λ (v : ℕ). SetOf s (λ a. (a < 64) × HasFirst w v set a)) e h
+
+pub held-second : {s set u : ℕ} {w : Appointment} → w .holder ≡ u → SetOf s (λ b. (b < 64) × HasB w (w .holder) set b)
+    → SetOf s (λ b. (b < 64) × HasB w u set b)
+held-second {s} {set} {u} {w} e h = subst (λ (v : ℕ). SetOf s (λ b. (b < 64) × HasB w v set b)) e h
 
 -- What the places give together is what he is appointed over.
 pub appointed-over : {s kind u : ℕ} {l : List Appointment} → SetOf s (λ a. Some 32 (λ j. Posted l kind u j a))

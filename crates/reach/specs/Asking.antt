@@ -73,6 +73,13 @@ pub record HasB (w : Appointment) (u first b : ℕ) : Type 0 where
   pub in-a : bit first (w .a) ≡ 1
   pub is-b : w .b ≡ b
 
+-- The same with the sides exchanged: its B is in the set, and a is its A.
+pub record HasFirst (w : Appointment) (u second a : ℕ) : Type 0 where
+  pub is-kind : w .kind ≡ administrator
+  pub is-holder : w .holder ≡ u
+  pub in-b : bit second (w .b) ≡ 1
+  pub is-a : w .a ≡ a
+
 -- The number a of an object is the A of an owner's appointment whose holder is a user by these sorts.
 pub record OwnersA (sorts : List ℕ) (w : Appointment) (a : ℕ) : Type 0 where
   pub is-kind : w .kind ≡ owner

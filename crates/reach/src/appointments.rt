@@ -6,9 +6,10 @@ ghost use Rattle.reach.specs.Words.{SetOf};
 ghost use Rattle.reach.specs.Tests.{Some, Decides};
 ghost use Rattle.reach.specs.Tables.{noAppointment};
 ghost use Rattle.reach.specs.Privileges.{owner, manager};
-ghost use Rattle.reach.specs.Asking.{HasA, AppointedOver, PostsIn, CoversPair, HasB, OwnersA};
+ghost use Rattle.reach.specs.Asking.{HasA, AppointedOver, PostsIn, CoversPair, HasB, HasFirst, OwnersA};
 use crate::Appointment;
 use crate::Posts;
+use crate::Sides;
 use crate::objects::sort_in;
 use crate::sets::has;
 use crate::sets::just;
@@ -133,33 +134,34 @@ pub fn given_to(appointments: [Appointment; 32], u: u8, first: u64, second: u64)
     }
 }
 
-// The B of this appointment, if it is an administrator's, u holds it, and its A is in the set.
-fn b_of(w: Appointment, u: u8, first: u64) -> u64
-    ensures { λ r. ⌜ SetOf r (λ b. (b < 64) × HasB w u first b) ⌝ }
+// The sides of this appointment whose other side is in the set, if it is an administrator's, for its holder.
+fn sides_by(w: Appointment, set: u64) -> Sides
+    ensures { λ r. ⌜ SetOf (r .first) (λ a. (a < 64) × HasFirst w (w .holder) set a) ×
+        SetOf (r .second) (λ b. (b < 64) × HasB w (w .holder) set b) ⌝ }
 {
-    if w.holder != u {
-        return 0;
+    let administrator = w.kind == 3;
+    Sides {
+        first: only_if(administrator & has(set, w.b), just(w.a)),
+        second: only_if(administrator & has(set, w.a), just(w.b)),
     }
-    if w.kind != 3 {
-        return 0;
-    }
-    if !has(first, w.a) {
-        return 0;
-    }
-    just(w.b)
 }
 
-// The Bs of u's administrator's appointments whose A is in the set.
-pub fn partners_of(appointments: [Appointment; 32], u: u8, first: u64) -> u64
-    ensures { λ r. ⌜ SetOf r (λ b. Some 32 (λ i. (b < 64) × HasB (getD appointments i noAppointment) u first b)) ⌝ }
+// The sides of u's administrator's appointments whose other side is in the set: of the places that are his, the lowest first.
+pub fn sides_of(appointments: [Appointment; 32], u: u8, set: u64) -> Sides
+    ensures { λ r. ⌜ SetOf (r .first) (λ a. Some 32 (λ i. (a < 64) × HasFirst (getD appointments i noAppointment) u set a)) ×
+        SetOf (r .second) (λ b. Some 32 (λ i. (b < 64) × HasB (getD appointments i noAppointment) u set b)) ⌝ }
 {
-    let mut set: u64 = 0;
-    let mut i: usize = 0;
-    while i < 32 {
-        set |= b_of(appointments[i], u, first);
-        i += 1;
+    let mut first: u64 = 0;
+    let mut second: u64 = 0;
+    let mut left = held_by(appointments, u);
+    while left != 0 {
+        let i = u32::trailing_zeros(left) as usize;
+        let sides = sides_by(appointments[i], set);
+        first |= sides.first;
+        second |= sides.second;
+        left &= !(1u32 << i);
     }
-    set
+    Sides { first, second }
 }
 
 // The As of all owners' appointments whose holder is a user: of the places that have an owner's, the lowest first.

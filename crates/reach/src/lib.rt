@@ -13,12 +13,14 @@ mod surveying;
 
 pub use appointments::covers_pair;
 pub use appointments::posts_of;
+pub use appointments::sides_of;
 pub use climbing::climb;
 pub use objects::appointment_at;
 pub use objects::row;
 pub use objects::rule_at;
 pub use objects::sort_in;
 pub use orphans::ownerless;
+pub use rounds::not_under;
 pub use sets::has;
 pub use sets::just;
 pub use sets::only_if;
@@ -66,6 +68,12 @@ pub struct Masks {
 pub struct Posts {
     pub owner: u64,
     pub manager: u64,
+}
+
+// Of administrator's appointments, the As whose B is in some set, and the Bs whose A is in it, as sets.
+pub struct Sides {
+    pub first: u64,
+    pub second: u64,
 }
 
 // Whether a user owns an object, and whether he manages it.

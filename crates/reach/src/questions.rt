@@ -13,8 +13,8 @@ use crate::Policy;
 use crate::Posts;
 use crate::appointments::covers_pair;
 use crate::appointments::given_to;
-use crate::appointments::partners_of;
 use crate::appointments::posts_of;
+use crate::appointments::sides_of;
 use crate::climbing::climb;
 use crate::objects::row;
 use crate::objects::sort_in;
@@ -144,8 +144,8 @@ impl Policy {
         }
         let m = masks_of(sorts);
         let over = climb(&sorts, &memberships, a);
-        let partners = partners_of(appointments, u, over);
-        descend(&memberships, m, partners)
+        let sides = sides_of(appointments, u, over);
+        descend(&memberships, m, sides.second)
     }
 
     // Whether u administers the pair (a, b).

@@ -3,7 +3,8 @@ ghost use mathlib.Core.Path.{_≡_};
 ghost use Rattle.reach.specs.Words.{SetOf, bit};
 ghost use Rattle.reach.specs.Tests.{Some};
 ghost use Rattle.reach.specs.Tables.{view};
-ghost use Rattle.reach.specs.Reach.{Under};
+ghost use Rattle.reach.specs.Reach.{InUse, Under};
+ghost use Rattle.reach.specs.Asking.{reachOf, UnderSomeBy};
 ghost use Rattle.reach.specs.Surveys.{Whose};
 use crate::Masks;
 use crate::Policy;
@@ -29,6 +30,16 @@ pub fn descend(memberships: &[u64; 64], m: Masks, set: u64) -> u64
         }
     }
     found
+}
+
+// Those of the one set that are in use and under nothing of the other.
+pub fn not_under<'a>(sorts: &'a [u8; 64], memberships: &'a [u64; 64], set: u64, over: u64) -> u64
+    ensures { λ r. ⌜ SetOf r (λ x. (bit set x ≡ 1) × InUse (view (reachOf (now (sorts .entry)) (now (memberships .entry)))) x ×
+        (UnderSomeBy (now (sorts .entry)) (now (memberships .entry)) over x → ⊥)) ⌝ }
+{
+    let m = masks_of(*sorts);
+    let under = descend(memberships, m, over);
+    set & m.objects & !under
 }
 
 impl Policy {

@@ -18,7 +18,7 @@ returns-2 c =
     partners-below _
     (user-of-sort _ _ (sym (t .before .sort-in .ensures) ∙ t .if1 .left))
     (climbed _ (b .climb .ensures))
-    (a .partners-of .ensures)
+    (a .sides-of .ensures .1)
     (c .descend .ensures _ (record { rows = refl; masks = m .masks-of .ensures _ refl }))
 
 pub administered-spec : {M : Type 1} → statement M
