@@ -20,7 +20,7 @@ struct Who {
     group: u64,
 }
 
-// The holder of this appointment, if it is of that kind, in each set that its A is above.
+// The holder of this appointment, if it is of that kind: for the object if its A is in the one set, and for the group if it is in the other.
 fn holder_of(w: Appointment, kind: u8, object: u64, group: u64) -> Who
     ensures { λ r. ⌜ SetOf (r .object) (λ u. (u < 64) × HolderOf w kind object u) × SetOf (r .group) (λ u. (u < 64) × HolderOf w kind group u) ⌝ }
 {
