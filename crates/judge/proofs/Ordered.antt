@@ -3,9 +3,9 @@ use mathlib.Core.Path.{_≡_, refl, sym, ap, _∙_}
 use mathlib.Core.Bool.{Bool, true, false, true≢false, false≢true}
 use mathlib.Core.List.{List, [], _∷_}
 use Prim.Native.Nat.{ℕ}
+use native.Mathlib.Decide.{ℕ-discrete}
 use native.Mathlib.Omega.{arith}
-use borrow.Author.Tests.{eqb-true}
-use lib.Dec.{eqb}
+use borrow.Author.Tests.{ne-eqb}
 use Rattle.reach.specs.declared.Policy.{Policy}
 use Rattle.reach.specs.declared.Place.{Place}
 use Rattle.reach.specs.declared.Place.the-variants.{At, Nothing}
@@ -20,10 +20,11 @@ use Rattle.rules.specs.Records.{sender, request}
 use Rattle.rules.specs.Doing.{after}
 use Rattle.rules.specs.Refusals.{torn, unknown, misfit, stranger, offTheSheet, absent, wrongSort, alreadySo, noAuthority, ownGain}
 use Rattle.rules.specs.Refusals.{handOver, orphan}
-use Rattle.rules.specs.Judging.{codeOf, doneBy, done, verdictOn, verdict, accepted, judge}
+use Rattle.rules.specs.Judging.{codeOf, citedOf, doneBy, done, verdictOn, verdict, judge}
 use Rattle.judge.specs.declared.Asked.{Asked}
+use Rattle.judge.specs.declared.Decision.{Decision}
 use Rattle.judge.specs.Naming.{namedBy}
-use Rattle.judge.specs.Answering.{answered, changes, formedBy, allowedBy, harmlessBy, readOf}
+use Rattle.judge.specs.Answering.{answered, answerBy, changes, decided, formedBy, allowedBy, harmlessBy, readOf}
 
 -- ---- Checks in a row
 
@@ -198,7 +199,8 @@ kept p b u (Grant i v t o) e z = absurd (never-done p b u _ refl e z)
 kept p b u (Withdraw i) e z = absurd (never-done p b u _ refl e z)
 kept p b u (Use x k) e z = refl
 
-changes-done : (v : Verdict) → changes v ≡ true → accepted v ≡ true
+-- What changes the policy is done.
+changes-done : (v : Verdict) → changes v ≡ true → codeOf v ≡ 0
 changes-done Done e = refl
 changes-done (DoneBy i) e = refl
 changes-done Torn e = absurd (false≢true e)
@@ -214,34 +216,65 @@ changes-done OwnGain e = absurd (false≢true e)
 changes-done HandOver e = absurd (false≢true e)
 changes-done Orphan e = absurd (false≢true e)
 
-code-of-accepted : (v : Verdict) → accepted v ≡ true → codeOf v ≡ 0
-code-of-accepted v e = eqb-true _ _ e
+-- What cites a rule changes nothing.
+cites-only : (v : Verdict) → (citedOf v ≡ 255 → ⊥) → changes v ≡ false
+cites-only Done n = absurd (n refl)
+cites-only (DoneBy i) n = refl
+cites-only Torn n = refl
+cites-only Unknown n = refl
+cites-only Misfit n = refl
+cites-only Stranger n = refl
+cites-only OffTheSheet n = refl
+cites-only Absent n = refl
+cites-only WrongSort n = refl
+cites-only AlreadySo n = refl
+cites-only NoAuthority n = refl
+cites-only OwnGain n = refl
+cites-only HandOver n = refl
+cites-only Orphan n = refl
 
--- With a verdict that changes the policy goes the policy after, and with every other the policy as it was.
-module _ (p : Policy) (b : List ℕ) {u : ℕ} {q : Request} {v : Verdict} (sent : u ≡ sender b) (asked : q ≡ request b)
-    (judged : v ≡ verdictOn p b u q) where
-  verdict-is : v ≡ verdict p b
-  unfolding verdict
-  verdict-is = rw (judged, sent, asked)
+-- ---- The decision
 
-  pub judge-verdict : v ≡ judge p b .verdict
-  unfolding judge
-  judge-verdict = verdict-is
+-- The policy of the answer that it comes to.
+module _ (p : Policy) (d : Decision) {n : Policy} where
+  -- With what is done goes the policy after it.
+  pub leaves-after : codeOf (d .verdict) ≡ 0 → n ≡ after p (d .request) → n ≡ answerBy p d .policy
+  leaves-after z f = rw (z, f)
 
-  pub judge-changes : changes v ≡ true → answered (after p q) v ≡ judge p b
-  unfolding judge
-  judge-changes e =
-      let a : accepted (verdict p b) ≡ true = sym (ap accepted verdict-is) ∙ changes-done v e in
-      rw (a, asked, verdict-is)
+  pub leaves-changed : changes (d .verdict) ≡ true → n ≡ after p (d .request) → n ≡ answerBy p d .policy
+  leaves-changed c f = leaves-after (changes-done (d .verdict) c) f
 
-  pub judge-keeps : changes v ≡ false → answered p v ≡ judge p b
-  unfolding judge
-  judge-keeps e = go (accepted v) refl
-    where
-      go : (t : Bool) → accepted v ≡ t → answered p v ≡ judge p b
-      go true a =
-          let f : accepted (verdict p b) ≡ true = sym (ap accepted verdict-is) ∙ a in
-          let k : after p (request b) ≡ p = sym (ap (after p) asked)
-          ∙ kept p b u q (sym (ap changes judged) ∙ e) (sym (ap codeOf judged) ∙ code-of-accepted v a) in
-          rw (f, k, verdict-is)
-      go false a = let f : accepted (verdict p b) ≡ false = sym (ap accepted verdict-is) ∙ a in rw (f, verdict-is)
+  -- With a refusal goes the policy as it was.
+  pub leaves-refused : (codeOf (d .verdict) ≡ 0 → ⊥) → n ≡ p → n ≡ answerBy p d .policy
+  leaves-refused z f = rw (ne-eqb _ _ z, f)
+
+module _ (p : Policy) (b : List ℕ) where
+  -- The verdict of the stages decides the record.
+  pub decides : {u : ℕ} {q : Request} {v : Verdict} → u ≡ sender b → q ≡ request b → v ≡ verdictOn p b u q
+      → record { sender = u; request = q; verdict = v } ≡ decided p b
+  unfolding judge verdict
+  decides sent asked judged = rw (judged, sent, asked)
+
+  module _ {d : Decision} (e : d ≡ decided p b) where
+    -- A decision comes to the answer of the judge.
+    pub decided-answer : answerBy p d ≡ judge p b
+    unfolding judge
+    decided-answer = ap (answerBy p) e
+
+    decided-on : d .verdict ≡ verdictOn p b (d .sender) (d .request)
+    unfolding judge verdict
+    decided-on = rw e
+
+    -- With what changes nothing goes the policy as it was.
+    pub leaves-same : {n : Policy} → changes (d .verdict) ≡ false → n ≡ p → n ≡ answerBy p d .policy
+    leaves-same {n} c f = go (ℕ-discrete (codeOf (d .verdict)) 0)
+      where
+        go : Dec (codeOf (d .verdict) ≡ 0) → n ≡ answerBy p d .policy
+        go (yes z) =
+            leaves-after p d z
+            (f ∙ sym (kept p b (d .sender) (d .request) (sym (ap changes decided-on) ∙ c) (sym (ap codeOf decided-on) ∙ z)))
+        go (no z) = leaves-refused p d z f
+
+    -- And so it does with what cites a rule.
+    pub leaves-cited : {n : Policy} → (citedOf (d .verdict) ≡ 255 → ⊥) → n ≡ p → n ≡ answerBy p d .policy
+    leaves-cited k f = leaves-same (cites-only (d .verdict) k) f

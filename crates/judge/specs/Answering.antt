@@ -12,8 +12,10 @@ use Rattle.rules.specs.declared.Answer.{Answer}
 use Rattle.rules.specs.Records.{sender, request}
 use Rattle.rules.specs.Refusals.{torn, unknown, misfit, stranger, offTheSheet, absent, wrongSort, alreadySo, noAuthority, ownGain}
 use Rattle.rules.specs.Refusals.{handOver, orphan}
-use Rattle.rules.specs.Judging.{done}
+use Rattle.rules.specs.Doing.{after}
+use Rattle.rules.specs.Judging.{done, accepted, judge}
 use Rattle.judge.specs.declared.Asked.{Asked}
+use Rattle.judge.specs.declared.Decision.{Decision}
 use Rattle.judge.specs.Naming.{namedBy}
 
 -- The verdict changes the policy: it is done, and no USE.
@@ -66,3 +68,11 @@ readOf p b =
 -- A policy, and a verdict on it. A refusal hands back the policy as it was.
 abbrev pub answered : Policy → Verdict → Answer
 answered p v = record { policy = p; verdict = v }
+
+-- What is decided on a record: who sends it, what it asks for, and the verdict of the rules.
+abbrev pub decided : Policy → List ℕ → Decision
+decided p b = record { sender = sender b; request = request b; verdict = judge p b .verdict }
+
+-- The answer that a decision comes to: with a request that is done goes the policy after it, and with a refusal the policy as it was.
+abbrev pub answerBy : Policy → Decision → Answer
+answerBy p d = answered (accepted (d .verdict) ⇒ after p (d .request) ∥ p) (d .verdict)

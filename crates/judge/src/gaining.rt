@@ -5,11 +5,9 @@ ghost use Rattle.reach.specs.Tables.{view};
 ghost use Rattle.reach.specs.Privileges.{Permitted};
 ghost use Rattle.gains.specs.Giving.{FirstPermission};
 ghost use Rattle.judge.specs.Telling.{OwnGainOf};
-use crate::allowed;
+use crate::decide;
 use crate::doing::after;
-use crate::harmless;
 use crate::numbers::code_of;
-use crate::read;
 use gains::Gain;
 use gains::gained;
 use reach::Policy;
@@ -41,16 +39,16 @@ pub fn permission_gained(p: Policy, u: u8, q: Request) -> Gain
 }
 
 // The first permission that a record would give its sender, if the board refuses it for own gain, and nothing if it answers otherwise. The
-// verdict comes from the stages of the judge, in the same order; no policy after is worked out for it.
+// verdict is what the board decides; no policy after is worked out for it.
 pub fn own_gain_of(p: Policy, bytes: &[u8]) -> Gain
     ensures { λ r. ⌜ OwnGainOf p (now (bytes .entry)) r ⌝ }
 {
-    let asked = read(p, bytes);
-    let u = asked.sender;
-    let q = asked.request;
-    let v = harmless(p, u, q, allowed(p, asked));
-    if code_of(v) != 10 {
+    let decision = decide(p, bytes);
+    let verdict = decision.verdict;
+    if code_of(verdict) != 10 {
         return Gain::Nothing;
     }
+    let u = decision.sender;
+    let q = decision.request;
     permission_gained(p, u, q)
 }

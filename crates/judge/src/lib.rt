@@ -6,7 +6,7 @@ ghost use Rattle.rules.specs.Judging.{judge, OneAnswer};
 ghost use mathlib.Core.Bool.{false};
 ghost use Rattle.judge.specs.Naming.{namedBy};
 ghost use Rattle.judge.specs.Kind.{isUse};
-ghost use Rattle.judge.specs.Answering.{answered, changes, formedBy, allowedBy, harmlessBy, readOf};
+ghost use Rattle.judge.specs.Answering.{answered, answerBy, changes, decided, formedBy, allowedBy, harmlessBy, readOf};
 
 mod authority;
 mod doing;
@@ -22,7 +22,7 @@ use authority::already_so;
 use authority::first_of;
 use authority::no_authority;
 use authority::second_of;
-use doing::after;
+pub use doing::after;
 use form::absent;
 use form::misfit;
 use form::off_the_sheet;
@@ -55,6 +55,13 @@ struct Asked {
     request: Request,
     named: Named,
     verdict: Verdict,
+}
+
+// What is decided on a record: who sends it, what it asks for, and the verdict.
+pub struct Decision {
+    pub sender: u8,
+    pub request: Request,
+    pub verdict: Verdict,
 }
 
 // Whether the verdict is one that changes the policy: it is done, and no USE.
@@ -188,19 +195,35 @@ fn harmless(p: Policy, u: u8, q: Request, v: Verdict) -> Verdict
     Verdict::Done
 }
 
-// The judge: the answer to one record on one policy, for every policy and all bytes. The first clause is demand 2, every answer and
-// every policy after it as the rules have it; the second is demand 1, one numbered answer, and a refusal that changes nothing. Here, and in
-// the three functions that it calls, the checks stand in their order.
+// Decides one record on one policy, for every policy and all bytes. The first clause is demand 2, every verdict as the rules have it; the
+// second is demand 1, one numbered answer, and a refusal that changes nothing. Here, and in the three functions that it calls, the checks
+// stand in their order. No policy is handed back, so that a refusal copies none.
+pub fn decide(p: Policy, bytes: &[u8]) -> Decision
+    ensures { λ r. ⌜ r ≡ decided p (now (bytes .entry)) ⌝ }
+    ensures { λ r. ⌜ OneAnswer p (answerBy p r) ⌝ }
+{
+    let asked = read(p, bytes);
+    let sender = asked.sender;
+    let request = asked.request;
+    let verdict = harmless(p, sender, request, allowed(p, asked));
+    Decision {
+        sender,
+        request,
+        verdict,
+    }
+}
+
+// The judge: the decision on one record, with the policy after it, for every policy and all bytes. The clauses are demands 2 and 1 again, of
+// the policy too.
 pub fn judge(p: Policy, bytes: &[u8]) -> Answer
     ensures { λ r. ⌜ r ≡ judge p (now (bytes .entry)) ⌝ }
     ensures { λ r. ⌜ OneAnswer p r ⌝ }
 {
-    let asked = read(p, bytes);
-    let u = asked.sender;
-    let q = asked.request;
-    let v = harmless(p, u, q, allowed(p, asked));
-    if changes(v) {
-        return answer(after(p, q), v);
+    let decision = decide(p, bytes);
+    let request = decision.request;
+    let verdict = decision.verdict;
+    if changes(verdict) {
+        return answer(after(p, request), verdict);
     }
-    answer(p, v)
+    answer(p, verdict)
 }

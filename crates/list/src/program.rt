@@ -8,14 +8,15 @@ use crate::Reported;
 use frame::Step;
 use frame::read_after;
 use frame::read_at;
+use judge::after;
 use judge::cited_of;
 use judge::code_of;
-use judge::judge;
+use judge::decide;
 use reach::Policy;
 use text::put_bytes;
 use text::put_line;
 
-// A line for each record of the input, the first judged on p and each later one on what the judge handed back, and one for a torn place.
+// A line for each record of the input, the first judged on p and each later one on what those before it left, and one for a torn place.
 pub fn report_from(p: Policy, input: &[u8], out: &mut [u8]) -> Reported
     ensures { λ r. ⌜ ReportInto p (now (input .entry)) (now (out .entry)) (now (out .exit)) r ⌝ }
 {
@@ -30,14 +31,18 @@ pub fn report_from(p: Policy, input: &[u8], out: &mut [u8]) -> Reported
                 length: _,
                 next,
             } => {
-                let answer = judge(current, &input[start..next]);
-                let verdict = answer.verdict;
+                let decision = decide(current, &input[start..next]);
+                let request = decision.request;
+                let verdict = decision.verdict;
                 let code = code_of(verdict);
-                // A refusal leaves the policy as it stood.
+                let cited = cited_of(verdict);
+                // A refusal leaves the policy as it stood, and so does a USE, which cites a rule.
                 if code == 0 {
-                    current = answer.policy;
+                    if cited == 255 {
+                        current = after(current, request);
+                    }
                 }
-                n = put_line(out, n, index, code, cited_of(verdict));
+                n = put_line(out, n, index, code, cited);
                 at = read_after(input, at);
                 index = index + 1;
             }

@@ -1,27 +1,28 @@
 // The run of a whole list, which is handed in as bytes and the ends of its records.
 ghost use mathlib.Core.Path.{_≡_};
 ghost use Rattle.reach.specs.Tables.{initial};
-ghost use Rattle.rules.specs.Judging.{judge};
+ghost use Rattle.judge.specs.Answering.{decided};
 ghost use Rattle.list.specs.Parts.{part, handed};
 ghost use Rattle.list.specs.Filling.{RunInto};
 ghost use Rattle.list.specs.Demand.{FoundingDemand3};
 use crate::Outcome;
+use judge::Decision;
+use judge::after;
 use judge::cited_of;
 use judge::code_of;
-use judge::judge;
+use judge::decide;
 use reach::Policy;
-use rules::Answer;
 
-// The answer to the record between two places of the bytes.
-fn judge_part(p: Policy, bytes: &[u8], start: usize, end: usize) -> Answer
-    ensures { λ r. ⌜ r ≡ judge p (part (now (bytes .entry)) start end) ⌝ }
+// The decision on the record between two places of the bytes.
+fn decide_part(p: Policy, bytes: &[u8], start: usize, end: usize) -> Decision
+    ensures { λ r. ⌜ r ≡ decided p (part (now (bytes .entry)) start end) ⌝ }
 {
     if start <= end {
         if end <= bytes.len() {
-            return judge(p, &bytes[start..end]);
+            return decide(p, &bytes[start..end]);
         }
     }
-    judge(p, &bytes[..0])
+    decide(p, &bytes[..0])
 }
 
 // Runs a list from any policy.
@@ -52,15 +53,19 @@ pub fn run_from(
     let mut i: usize = 0;
     while i < ends.len() {
         let end = ends[i];
-        let answer = judge_part(current, bytes, start, end);
-        let verdict = answer.verdict;
+        let decision = decide_part(current, bytes, start, end);
+        let request = decision.request;
+        let verdict = decision.verdict;
         let code = code_of(verdict);
-        // A refusal leaves the policy as it stood.
+        let rule = cited_of(verdict);
+        // A refusal leaves the policy as it stood, and so does a USE, which cites a rule.
         if code == 0 {
-            current = answer.policy;
+            if rule == 255 {
+                current = after(current, request);
+            }
         }
         codes[i] = code;
-        cited[i] = cited_of(verdict);
+        cited[i] = rule;
         start = end;
         i = i + 1;
     }

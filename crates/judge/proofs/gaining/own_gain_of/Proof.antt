@@ -6,14 +6,14 @@ use native.Mathlib.Omega.{arith}
 use Rattle.reach.specs.declared.Policy.{Policy}
 use Rattle.rules.specs.declared.Request.{Request}
 use Rattle.rules.specs.declared.Verdict.{Verdict}
-use denote.Ref.{now}
 use Rattle.rules.specs.Records.{sender, request}
 use Rattle.rules.specs.Judging.{codeOf, judge}
 use Rattle.gains.specs.declared.Gain.{Gain}
 use Rattle.gains.specs.declared.Gain.the-variants.{Nothing}
 use Rattle.gains.specs.Giving.{FirstPermission}
+use Rattle.judge.specs.declared.Decision.{Decision}
+use Rattle.judge.specs.Answering.{decided}
 use Rattle.judge.specs.Telling.{OwnGainOf}
-use Rattle.judge.proofs.Ordered.{stages, read-sent, read-asked, read-named, judge-verdict}
 use borrow.Author.Needs.{needs}
 use Rattle.judge.proofs.gaining.own_gain_of.Statement.{statement}
 use Rattle.judge.proofs.gaining.own_gain_of.Tie as tie
@@ -33,36 +33,36 @@ module _ (p : Policy) (b : List ℕ) (v : Verdict) (code : ℕ) (judged : v ≡ 
         otherwise = λ other. absurd (other (sym answered ∙ ten));
       }
 
--- The stages give the judge's verdict.
-judged : (c : tie.After-harmless)
-    → let s = c .before .before .before .before in
-    c .harmless .result ≡ judge (s .args .p) (now (s .args .bytes)) .verdict
-judged c =
-    let allowed = c .before in
-    let read = allowed .before .read .ensures in
-    judge-verdict _ _ (read-sent _ _ read) (read-asked _ _ read) (stages _ _ read (allowed .allowed .ensures (read-named _ _ read)) (c .harmless .ensures))
+-- What is decided is the judge's.
+module _ (p : Policy) (b : List ℕ) {d : Decision} (e : d ≡ decided p b) where
+  decided-verdict : d .verdict ≡ judge p b .verdict
+  decided-verdict = rw e
+
+  decided-sender : d .sender ≡ sender b
+  decided-sender = rw e
+
+  decided-request : d .request ≡ request b
+  decided-request = rw e
 
 returns : tie.Need-returns
 returns c =
     let code = c .before in
-    untold _ _ _ _ (judged (code .before)) (code .code-of .ensures) (λ e. omega (arith, e, c .if1 .taken))
+    untold _ _ _ _ (decided-verdict _ _ (code .before .decide .ensures .0)) (code .code-of .ensures) (λ e. omega (arith, e, c .if1 .taken))
 
 returns-2 : tie.Need-returns-2
 returns-2 c =
     let code = c .before .before in
-    let read = code .before .before .before .read .ensures in
-    told _ _ _ _ (judged (code .before)) (code .code-of .ensures) _ _ _
+    let decided = code .before .decide .ensures .0 in
+    told _ _ _ _ (decided-verdict _ _ decided) (code .code-of .ensures) _ _ _
     (omega (arith, c .before .if1 .left))
-    (omega (arith, read-sent _ _ read))
-    (read-asked _ _ read)
+    (omega (arith, decided-sender _ _ decided))
+    (decided-request _ _ decided)
     (c .permission-gained .ensures)
 
 pub own-gain-of-spec : {M : Type 1} → statement M
 own-gain-of-spec =
     tie.close
     (tie.spec
-    (λ c κs. search needs)
-    (λ c κs. search needs)
     (λ c κs. search needs)
     (λ c κs. search needs)
     returns

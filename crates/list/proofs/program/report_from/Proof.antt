@@ -8,6 +8,8 @@ use denote.Ref.{now}
 use Rattle.frame.specs.declared.Step.the-variants.{Record}
 use Rattle.frame.specs.Reading.{stepAt}
 use Rattle.frame.proofs.Steps.{Found, step-record}
+use Rattle.judge.specs.Answering.{answerBy}
+use Rattle.judge.proofs.Ordered.{decided-answer, leaves-after, leaves-cited, leaves-refused}
 use Rattle.list.proofs.Reporting.{Reporting, reporting-start, reporting-record, reporting-torn, reporting-end}
 use Rattle.text.specs.Text.{Bytes}
 use borrow.Author.Needs.{needs}
@@ -49,14 +51,14 @@ moved c = simp (c .read-after .ensures, found (told c) .starts, record-at (told 
 loop-holds : tie.Need-loop-holds Inv-loop μ-loop
 loop-holds c = reporting-start _ _ _ (omega arith)
 
-sub-judge : tie.Need-sub-judge Inv-loop μ-loop
-sub-judge c = omega (arith, found c)
+sub-decide : tie.Need-sub-decide Inv-loop μ-loop
+sub-decide c = omega (arith, found c)
 
-part-judge-start : tie.Need-part-judge-start Inv-loop μ-loop
-part-judge-start c = omega (arith, found c)
+part-decide-start : tie.Need-part-decide-start Inv-loop μ-loop
+part-decide-start c = omega (arith, found c)
 
-part-judge-end : tie.Need-part-judge-end Inv-loop μ-loop
-part-judge-end c = omega (arith, found c)
+part-decide-end : tie.Need-part-decide-end Inv-loop μ-loop
+part-decide-end c = omega (arith, found c)
 
 add-index : tie.Need-add-index Inv-loop μ-loop
 add-index c =
@@ -66,26 +68,36 @@ add-index c =
 loop-less : tie.Need-loop-less Inv-loop μ-loop
 loop-less c = omega (arith, found (told c), moved c)
 
--- After an accepted record the policy is the one handed back; after a refused one it is the one that stood, which is the same.
-handed-back : (c : tie.Joined1 Inv-loop μ-loop) → c .if1 .current ≡ c .before .before .judge .result .policy
-handed-back c =
-    let coded = c .before in
-    let answered = coded .before .judge .ensures .1 in
-    ⊎-elim
-    (λ w. w .2)
-    (λ w. w .1 ∙ sym (answered .refusal-keeps (λ e. omega (arith, e, coded .code-of .ensures, w .0 .left))))
+-- After a request that is done the policy is the one after it; after a refusal, and after a USE, it is the one that stood. It is that of the
+-- judge's answer.
+abbrev Left : tie.Joined1 Inv-loop μ-loop → Type 0
+Left c =
+    let decided = c .before .before .before in
+    c .if1 .current ≡ answerBy (decided .before .before .before .before .before .before .loop .current) (decided .decide .result) .policy
+
+left : (c : tie.Joined1 Inv-loop μ-loop) → Left c
+left c =
+    let cited = c .before in
+    let coded = cited .before in
+    let decide = coded .before .decide in
+    ⊎-elim {C = Left c}
+    (λ w. leaves-after _ (decide .result) (omega (arith, coded .code-of .ensures, w .0 .taken)) (w .3 ∙ w .2 .ensures))
+    (⊎-elim {C = Left c}
+    (λ w. leaves-cited _ _ (decide .ensures .0) (λ e. omega (arith, e, cited .cited-of .ensures, w .1 .left)) (w .2))
+    (λ w. leaves-refused _ (decide .result) (λ e. omega (arith, e, coded .code-of .ensures, w .0 .left)) (w .1)))
     (c .if1 .came)
 
 loop-again : tie.Need-loop-again Inv-loop μ-loop
 loop-again c =
     let put = c .before .before .before in
-    let cited = put .before in
-    let joined = cited .before .before in
-    let coded = joined .before in
+    let joined = put .before .before in
+    let cited = joined .before in
+    let coded = cited .before in
+    let decide = coded .before .decide in
     let t = told c in
-    reporting-record _ _ _ (t .before .before .before .before .loop .inv) _ _ _ (record-at t)
-    (coded .before .judge .ensures .0) (coded .code-of .ensures) (cited .cited-of .ensures) (handed-back joined) (put .put-line .ensures)
-    (moved c)
+    reporting-record _ _ _ (t .before .before .before .before .loop .inv) (answerBy _ (decide .result)) _ _ (record-at t)
+    (decided-answer _ _ (decide .ensures .0)) (coded .code-of .ensures) (cited .cited-of .ensures) (left joined)
+    (put .put-line .ensures) (moved c)
 
 same-length : tie.Need-same-length Inv-loop μ-loop
 same-length c =
@@ -117,9 +129,10 @@ report-from-spec =
     loop-holds
     (λ c κs. search needs)
     (λ c. search needs)
-    sub-judge
-    part-judge-start
-    part-judge-end
+    sub-decide
+    part-decide-start
+    part-decide-end
+    (λ c κs. search needs)
     (λ c κs. search needs)
     (λ c κs. search needs)
     (λ c κs. search needs)

@@ -5,7 +5,8 @@ use mathlib.Core.Logic.{⊎-elim}
 use Prim.Native.Nat.{_-_}
 use native.Mathlib.Omega.{arith}
 use lib.ListN.{length}
-use Rattle.rules.proofs.Bounded.{one-answer}
+use Rattle.judge.specs.Answering.{answerBy}
+use Rattle.judge.proofs.Ordered.{decided-answer, leaves-after, leaves-cited, leaves-refused}
 use Rattle.list.proofs.Running.{Running, running-start, running-step, running-end, running-codes, running-cited, too-few-codes}
 use Rattle.list.proofs.Running.{too-few-cited}
 use borrow.Author.Needs.{needs}
@@ -30,7 +31,7 @@ loop-holds c = running-start _ _ _ _ _ (omega (arith, c .before .if1 .left)) (om
 
 slice-write-codes : tie.Need-slice-write-codes Inv-loop μ-loop
 slice-write-codes c =
-    let turn = c .before .before .before .before in
+    let turn = c .before .before .before .before .before in
     let s = turn .before .loop .inv in
     omega (arith, turn .loop-test .taken, s .codes-room, running-codes _ _ _ _ _ s)
 
@@ -40,27 +41,36 @@ slice-write-cited c =
     let s = turn .before .loop .inv in
     omega (arith, turn .loop-test .taken, s .cited-room, running-cited _ _ _ _ _ s)
 
--- After an accepted record the policy is the one handed back; after a refused one it is the one that stood, which is the same.
-handed-back : (c : tie.Joined3 Inv-loop μ-loop) → c .if3 .current ≡ c .before .before .judge-part .result .policy
-handed-back c =
-    let coded = c .before in
-    let answered = one-answer _ _ _ (coded .before .judge-part .ensures) in
-    ⊎-elim
-    (λ w. w .2)
-    (λ w. w .1 ∙ sym (answered .refusal-keeps (λ e. omega (arith, e, coded .code-of .ensures, w .0 .left))))
+-- After a request that is done the policy is the one after it; after a refusal, and after a USE, it is the one that stood. It is that of the
+-- judge's answer.
+abbrev Left : tie.Joined3 Inv-loop μ-loop → Type 0
+Left c =
+    let decided = c .before .before .before in
+    c .if3 .current ≡ answerBy (decided .before .before .before .loop .current) (decided .decide-part .result) .policy
+
+left : (c : tie.Joined3 Inv-loop μ-loop) → Left c
+left c =
+    let cited = c .before in
+    let coded = cited .before in
+    let decide = coded .before .decide-part in
+    ⊎-elim {C = Left c}
+    (λ w. leaves-after _ (decide .result) (omega (arith, coded .code-of .ensures, w .0 .taken)) (w .3 ∙ w .2 .ensures))
+    (⊎-elim {C = Left c}
+    (λ w. leaves-cited _ _ (decide .ensures) (λ e. omega (arith, e, cited .cited-of .ensures, w .1 .left)) (w .2))
+    (λ w. leaves-refused _ (decide .result) (λ e. omega (arith, e, coded .code-of .ensures, w .0 .left)) (w .1)))
     (c .if3 .came)
 
 loop-again : tie.Need-loop-again Inv-loop μ-loop
 loop-again c =
-    let joined = c .before in
-    let coded = joined .before in
-    let judged = coded .before in
-    let turn = judged .before .before in
-    running-step _ _ _ _ _ (turn .before .loop .inv) (turn .loop-test .taken) _ _ _
-    (judged .judge-part .ensures)
+    let cited = c .before in
+    let coded = cited .before in
+    let decided = coded .before in
+    let turn = decided .before .before in
+    running-step _ _ _ _ _ (turn .before .loop .inv) (turn .loop-test .taken) (answerBy _ (decided .decide-part .result)) _ _
+    (decided-answer _ _ (decided .decide-part .ensures))
     (coded .code-of .ensures)
-    (c .cited-of .ensures)
-    (handed-back joined)
+    (cited .cited-of .ensures)
+    (left c)
     (omega arith)
     (omega arith)
 
@@ -86,8 +96,9 @@ run-from-spec =
     (λ c. search needs)
     (λ c κs. search needs)
     (λ c κs. search needs)
-    slice-write-codes
     (λ c κs. search needs)
+    (λ c κs. search needs)
+    slice-write-codes
     slice-write-cited
     (λ c. search needs)
     (λ c. search needs)
