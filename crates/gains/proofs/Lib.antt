@@ -6,6 +6,7 @@ pub mod PutOver
 pub mod PutGives
 pub mod PutAgain
 pub mod PutNamed
+pub mod PutMay
 pub mod Appointed
 pub mod Granted
 pub mod Outright

@@ -6,7 +6,11 @@ use Rattle.reach.specs.declared.Policy.{Policy}
 use Rattle.reach.specs.declared.Appointment.{Appointment}
 use Rattle.reach.specs.declared.AccessRule.{AccessRule}
 use Rattle.reach.specs.Tables.{view}
-use Rattle.reach.specs.Reach.{User}
+use Rattle.reach.specs.declared.Posts.{Posts}
+use Rattle.reach.specs.Reach.{InUse, User}
+use Rattle.reach.specs.Asking.{PostsOf}
+use Rattle.gains.specs.declared.putting.Climbs.{Climbs}
+use Rattle.gains.specs.Lacking.{Above}
 
 -- The sorts and the memberships are those of the policy.
 pub record Lent (p : Policy) (s m : List ℕ) : Type 0 where
@@ -23,3 +27,11 @@ pub record Heard (p : Policy) (s m : List ℕ) (l : List Appointment) (u : ℕ) 
 pub record Ruled (p : Policy) (s m : List ℕ) (l : List AccessRule) : Type 0 where
   pub lent : Lent p s m
   pub rules : p .rules ≡ l
+
+-- u is a user, and x in use; what he is appointed over is known, and what x and g are under.
+pub record Climbed (p : Policy) (u x g : ℕ) (above : Climbs) (posts : Posts) : Type 0 where
+  pub user : User (view p) u
+  pub used : InUse (view p) x
+  pub object : Above p x (above .object)
+  pub group : Above p g (above .group)
+  pub holds : PostsOf (view p) u posts

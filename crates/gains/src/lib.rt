@@ -7,7 +7,9 @@ mod own;
 mod putting;
 mod searching;
 
-pub use own::giving;
+pub use own::appoint_gains;
+pub use own::grant_gains;
+pub use putting::put_verdict;
 pub use searching::gained;
 
 // A permission that is gained, target and operation, or none.

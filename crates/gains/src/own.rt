@@ -1,17 +1,13 @@
-// Checks 10 and 11 of every kind of request, and own gain by APPOINT and GRANT.
+// Check 10 of APPOINT and GRANT.
 ghost use mathlib.Core.Path.{_≡_};
-ghost use Rattle.reach.specs.Tests.{_⇒_∥_};
 ghost use Rattle.rules.specs.declared.Request.the-variants.{Grant};
-ghost use Rattle.rules.specs.declared.Verdict.the-variants.{Done, OwnGain};
 ghost use Rattle.rules.specs.Allowing.{appointing};
 ghost use Rattle.rules.specs.Refusals.{ownGain};
-ghost use Rattle.gains.specs.Giving.{givenBy};
 use crate::Gain;
 use crate::granting::granted;
 use crate::granting::operations_over;
 use crate::granting::spread;
 use crate::putting::lacks_first;
-use crate::putting::put_gives;
 use crate::searching::first_fresh;
 use reach::AccessRule;
 use reach::Appointment;
@@ -21,12 +17,10 @@ use reach::has;
 use reach::just;
 use reach::posts_of;
 use reach::sort_in;
-use rules::Request;
-use rules::Verdict;
 
 // APPOINT gives its sender something exactly if he appoints himself to what he lacks: nothing that he is appointed over in that way is above
 // its A, or no one appointment of his covers its pair.
-fn appoint_gains(p: Policy, u: u8, place: u8, w: Appointment) -> bool
+pub fn appoint_gains(p: Policy, u: u8, place: u8, w: Appointment) -> bool
     ensures { λ r. ⌜ r ≡ ownGain p u (appointing place w) ⌝ }
 {
     if !((w.holder == u) & (place < 32)) {
@@ -56,7 +50,7 @@ fn appoint_gains(p: Policy, u: u8, place: u8, w: Appointment) -> bool
 
 // GRANT can give permissions alone: its sender gains exactly if he is among its users and the search finds one. There is nothing to find if
 // the rules that cover him have its operations over what its T is under.
-fn grant_gains(p: Policy, u: u8, place: u8, rule: AccessRule) -> bool
+pub fn grant_gains(p: Policy, u: u8, place: u8, rule: AccessRule) -> bool
     ensures { λ r. ⌜ r ≡ ownGain p u (Grant place (rule .users) (rule .targets) (rule .operations)) ⌝ }
 {
     let sorts = p.sorts;
@@ -79,53 +73,5 @@ fn grant_gains(p: Policy, u: u8, place: u8, rule: AccessRule) -> bool
     match first_fresh(&sorts, &memberships, had, got, 0, 0) {
         Gain::Permission(y, k) => true,
         Gain::Nothing => false,
-    }
-}
-
-// The verdict on a request that hands nothing over: own gain, if there is one, and else done.
-fn own(gained: bool) -> Verdict
-    ensures { λ r. ⌜ r ≡ (gained ⇒ OwnGain ∥ Done) ⌝ }
-{
-    if gained {
-        return Verdict::OwnGain;
-    }
-    Verdict::Done
-}
-
-// Checks 10 and 11: own gain or hand-over, whichever is first, and else done.
-pub fn giving(p: Policy, u: u8, q: Request) -> Verdict
-    ensures { λ r. ⌜ r ≡ givenBy p u q ⌝ }
-{
-    match q {
-        Request::Make { place, sort, group } => Verdict::Done,
-        Request::Put { object, group } => put_gives(p, u, object, group),
-        Request::Take { object, group } => Verdict::Done,
-        Request::Appoint {
-            place,
-            kind,
-            holder,
-            a,
-            b,
-        } => {
-            let w = Appointment { kind, holder, a, b };
-            own(appoint_gains(p, u, place, w))
-        },
-        Request::Dismiss { place } => Verdict::Done,
-        Request::Grant {
-            place,
-            users,
-            targets,
-            operations,
-        } => {
-            let rule = AccessRule {
-                used: true,
-                users,
-                targets,
-                operations,
-            };
-            own(grant_gains(p, u, place, rule))
-        },
-        Request::Withdraw { place } => Verdict::Done,
-        Request::Use { target, operation } => Verdict::Done,
     }
 }

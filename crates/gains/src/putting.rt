@@ -1,16 +1,19 @@
-// What a PUT gives its sender and hands over to others, asked of what its object and its group are under.
+// Checks 8 to 11 of a PUT, by what its object and its group are under: who may, what it gives its sender, and what it hands over.
 ghost use mathlib.Core.Path.{_≡_};
 ghost use mathlib.Core.Logic.{_⊎_};
 ghost use Prim.Native.Nat.{ℕ};
 ghost use Rattle.reach.specs.declared.Policy.{Policy};
-ghost use Rattle.reach.specs.Tests.{Decides};
+ghost use Rattle.reach.specs.Words.{Meet};
+ghost use Rattle.reach.specs.Tests.{Decides, _⇒_∥_};
 ghost use Rattle.reach.specs.Tables.{view};
 ghost use Rattle.reach.specs.Reach.{InUse};
 ghost use Rattle.reach.specs.Privileges.{Administers};
 ghost use Rattle.rules.specs.declared.Request.the-variants.{Put};
+ghost use Rattle.rules.specs.declared.Verdict.the-variants.{AlreadySo, NoAuthority};
+ghost use Rattle.rules.specs.Refusals.{alreadySo, noAuthority};
 ghost use Rattle.gains.specs.Giving.{givenBy};
 ghost use Rattle.gains.specs.Lacking.{Grows, LacksPair, Above};
-ghost use Rattle.gains.specs.Lending.{Heard};
+ghost use Rattle.gains.specs.Lending.{Heard, Climbed};
 use crate::handing::handed;
 use crate::handing::hands_over;
 use crate::opening::is_found;
@@ -25,10 +28,15 @@ use reach::covers_pair;
 use reach::has;
 use reach::not_under;
 use reach::only_if;
-use reach::posts_of;
 use reach::sides_of;
 use reach::sort_in;
 use rules::Verdict;
+
+// All that the object of a PUT is under, and all that its group is under, themselves too.
+struct Climbs {
+    object: u64,
+    group: u64,
+}
 
 // Whether b is in use, and u does not administer the pair of what `object` is above and b.
 pub fn lacks_first<'a>(
@@ -83,31 +91,31 @@ fn posts_grow(posts: Posts, object: u64, group: u64) -> bool
     fresh(posts.manager, posts.manager, object, group)
 }
 
-// Checks 10 and 11 of a PUT. Where the object is under the group already, the PUT gives nothing. Else its sender gains exactly if he holds the
-// group and not the object in one of the two ways, or a pair comes, or a permission is found; and it hands over exactly if he does not
-// own the object, and some user holds the group and not the object. Who is no user gains nothing and owns nothing.
-pub fn put_gives(p: Policy, u: u8, x: u8, g: u8) -> Verdict
-    ensures { λ r. ⌜ r ≡ givenBy p u (Put x g) ⌝ }
+// Whether what he is appointed over, as an owner or as a manager, has something in the set.
+fn meets(posts: Posts, set: u64) -> bool
+    ensures { λ r. ⌜ Decides r (Meet (posts .owner) set ⊎ Meet (posts .manager) set) ⌝ }
+{
+    (posts.owner & set != 0) | (posts.manager & set != 0)
+}
+
+// Checks 10 and 11 of a PUT by a user of an object in use. Into what is no group, and where the object is under the group already, it gives
+// nothing. Else its sender gains exactly if he holds the group and not the object in one of the two ways, or a pair comes, or a permission is
+// found; and it hands over exactly if he does not own the object, and some user holds the group and not the object.
+fn put_gives(p: Policy, u: u8, x: u8, g: u8, above: Climbs, posts: Posts) -> Verdict
+    ensures { λ r. ⌜ (Climbed p u x g above posts → r ≡ givenBy p u (Put x g)) ⌝ }
 {
     let sorts = p.sorts;
     let memberships = p.memberships;
     let appointments = p.appointments;
     let rules = p.rules;
-    let put = sort_in(&sorts, x);
-    let into = sort_in(&sorts, g);
-    if !((put != 0) & (into == 1)) {
+    let object = above.object;
+    let group = above.group;
+    if sort_in(&sorts, g) != 1 {
         return Verdict::Done;
-    }
-    let object = climb(&sorts, &memberships, x);
-    let group = climb(&sorts, &memberships, g);
-    let sender = sort_in(&sorts, u);
-    if sender != 2 {
-        return handed(hands_over(&sorts, appointments, object, group));
     }
     if has(object, g) {
         return Verdict::Done;
     }
-    let posts = posts_of(appointments, u);
     if posts_grow(posts, object, group) {
         return Verdict::OwnGain;
     }
@@ -125,4 +133,22 @@ pub fn put_gives(p: Policy, u: u8, x: u8, g: u8) -> Verdict
         return Verdict::Done;
     }
     handed(hands_over(&sorts, appointments, object, group))
+}
+
+// Checks 8 to 11 of a PUT, in their order. They are asked together, since all of them but the first go by what its object and its group are
+// under, and each of the two is climbed from once.
+pub fn put_verdict(p: Policy, u: u8, x: u8, g: u8) -> Verdict
+    ensures { λ r. ⌜ r ≡ (alreadySo p (Put x g) ⇒ AlreadySo ∥ noAuthority p u (Put x g) ⇒ NoAuthority ∥ givenBy p u (Put x g)) ⌝ }
+{
+    if p.direct(x, g) {
+        return Verdict::AlreadySo;
+    }
+    let posts = p.posts(u);
+    let object = p.above(x);
+    let group = p.above(g);
+    if !(meets(posts, object) & meets(posts, group)) {
+        return Verdict::NoAuthority;
+    }
+    let above = Climbs { object, group };
+    put_gives(p, u, x, g, above, posts)
 }

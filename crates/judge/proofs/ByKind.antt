@@ -17,7 +17,9 @@ use Rattle.rules.specs.Authority.{may}
 use Rattle.rules.specs.Refusals.{alreadySo, noAuthority, ownGain, handOver, orphan}
 use Rattle.rules.specs.Judging.{doneBy, done}
 use Rattle.gains.proofs.Outright.{appoint-other}
-use Rattle.judge.specs.Kind.{isUse, canGain, canOrphan}
+use Rattle.judge.specs.declared.records.Named.{Named}
+use Rattle.judge.specs.Holding.{firstOf, secondOf}
+use Rattle.judge.specs.Kind.{isUse, isPut, canGain, canOrphan}
 use Rattle.judge.specs.Using.{usedBy}
 
 -- What is said of the kind of a request is said of one that is equal.
@@ -47,11 +49,44 @@ use-not-so p (Grant i v t o) e = absurd (false≢true e)
 use-not-so p (Withdraw i) e = absurd (false≢true e)
 use-not-so p (Use x k) e = refl
 
--- What can give a holding leaves nothing without an owner.
+-- It is no PUT either.
+pub use-no-put : (q : Request) → isUse q ≡ true → isPut q ≡ false
+use-no-put (Make i s g) e = refl
+use-no-put (Put x g) e = absurd (false≢true e)
+use-no-put (Take x g) e = refl
+use-no-put (Appoint i k h a b) e = refl
+use-no-put (Dismiss i) e = refl
+use-no-put (Grant i v t o) e = refl
+use-no-put (Withdraw i) e = refl
+use-no-put (Use x k) e = refl
+
+-- A PUT leaves nothing without an owner.
+pub put-no-orphan : (p : Policy) (q : Request) → isPut q ≡ true → orphan p q ≡ false
+unfolding orphan
+put-no-orphan p (Make i s g) e = refl
+put-no-orphan p (Put x g) e = refl
+put-no-orphan p (Take x g) e = absurd (false≢true e)
+put-no-orphan p (Appoint i k h a b) e = refl
+put-no-orphan p (Dismiss i) e = absurd (false≢true e)
+put-no-orphan p (Grant i v t o) e = refl
+put-no-orphan p (Withdraw i) e = refl
+put-no-orphan p (Use x k) e = refl
+
+-- What can give a holding is no PUT, and leaves nothing without an owner.
+pub gain-no-put : (u : ℕ) (q : Request) → canGain u q ≡ true → isPut q ≡ false
+gain-no-put u (Make i s g) e = refl
+gain-no-put u (Put x g) e = absurd (false≢true e)
+gain-no-put u (Take x g) e = refl
+gain-no-put u (Appoint i k h a b) e = refl
+gain-no-put u (Dismiss i) e = refl
+gain-no-put u (Grant i v t o) e = refl
+gain-no-put u (Withdraw i) e = refl
+gain-no-put u (Use x k) e = refl
+
 pub gain-no-orphan : (p : Policy) (u : ℕ) (q : Request) → canGain u q ≡ true → orphan p q ≡ false
 unfolding orphan
 gain-no-orphan p u (Make i s g) e = refl
-gain-no-orphan p u (Put x g) e = refl
+gain-no-orphan p u (Put x g) e = absurd (false≢true e)
 gain-no-orphan p u (Take x g) e = absurd (false≢true e)
 gain-no-orphan p u (Appoint i k h a b) e = refl
 gain-no-orphan p u (Dismiss i) e = absurd (false≢true e)
@@ -59,20 +94,31 @@ gain-no-orphan p u (Grant i v t o) e = refl
 gain-no-orphan p u (Withdraw i) e = refl
 gain-no-orphan p u (Use x k) e = refl
 
-module _ (p : Policy) (u : ℕ) where
-  pub no-own-gain : Sized p → (q : Request) → canGain u q ≡ false → ownGain p u q ≡ false
-  unfolding ownGain
-  no-own-gain z (Make i s g) e = refl
-  no-own-gain z (Put x g) e = absurd (true≢false e)
-  no-own-gain z (Take x g) e = refl
-  no-own-gain z (Appoint i k h a b) e = appoint-other p z u i (record { kind = k; holder = h; a = a; b = b }) (eqb-false _ _ e)
-  no-own-gain z (Dismiss i) e = refl
-  no-own-gain z (Grant i v t o) e = absurd (true≢false e)
-  no-own-gain z (Withdraw i) e = refl
-  no-own-gain z (Use x k) e = refl
+-- A PUT is of the two objects that it names.
+pub put-of : (q : Request) (n : Named) → isPut q ≡ true → q ≡ Put (firstOf n q) (secondOf n q)
+put-of (Make i s g) n e = absurd (false≢true e)
+put-of (Put x g) n e = refl
+put-of (Take x g) n e = absurd (false≢true e)
+put-of (Appoint i k h a b) n e = absurd (false≢true e)
+put-of (Dismiss i) n e = absurd (false≢true e)
+put-of (Grant i v t o) n e = absurd (false≢true e)
+put-of (Withdraw i) n e = absurd (false≢true e)
+put-of (Use x k) n e = absurd (false≢true e)
 
-  -- What cannot give its sender a holding hands nothing over either.
-  pub no-hand-over : (q : Request) → canGain u q ≡ false → handOver p u q ≡ false
+module _ (p : Policy) (u : ℕ) where
+  pub no-own-gain : Sized p → (q : Request) → isPut q ≡ false → canGain u q ≡ false → ownGain p u q ≡ false
+  unfolding ownGain
+  no-own-gain z (Make i s g) n e = refl
+  no-own-gain z (Put x g) n e = absurd (true≢false n)
+  no-own-gain z (Take x g) n e = refl
+  no-own-gain z (Appoint i k h a b) n e = appoint-other p z u i (record { kind = k; holder = h; a = a; b = b }) (eqb-false _ _ e)
+  no-own-gain z (Dismiss i) n e = refl
+  no-own-gain z (Grant i v t o) n e = absurd (true≢false e)
+  no-own-gain z (Withdraw i) n e = refl
+  no-own-gain z (Use x k) n e = refl
+
+  -- Nothing but a PUT hands over.
+  pub no-hand-over : (q : Request) → isPut q ≡ false → handOver p u q ≡ false
   unfolding handOver
   no-hand-over (Make i s g) e = refl
   no-hand-over (Put x g) e = absurd (true≢false e)

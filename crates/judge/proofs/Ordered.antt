@@ -24,7 +24,7 @@ use Rattle.rules.specs.Judging.{codeOf, citedOf, doneBy, done, verdictOn, verdi
 use Rattle.judge.specs.declared.Asked.{Asked}
 use Rattle.judge.specs.declared.Decision.{Decision}
 use Rattle.judge.specs.Naming.{namedBy}
-use Rattle.judge.specs.Answering.{answered, answerBy, changes, decided, formedBy, allowedBy, harmlessBy, readOf}
+use Rattle.judge.specs.Answering.{answerBy, changes, decided, formedBy, passedBy, allowedBy, harmlessBy, readOf}
 
 -- ---- Checks in a row
 
@@ -96,19 +96,25 @@ refuse-harmed =
     (more HandOver refl (λ z. omega (arith, z))
     (more Orphan refl (λ z. omega (arith, z)) none))
 
--- What is done goes through the last three checks; a USE, which can fail none of them, is done by its rule.
-done-then : (p : Policy) (u : ℕ) (q : Request)
-    → (changes (done p u q) ⇒ harmlessBy p u q ∥ done p u q)
+-- What has passed goes through the checks that are left: a PUT through none, and a USE, which can fail none of them, is done by its rule.
+passed-then : (p : Policy) (u : ℕ) (q : Request)
+    → (changes (passedBy p u q) ⇒ harmlessBy p u q ∥ passedBy p u q)
     ≡ (ownGain p u q ⇒ OwnGain ∥ handOver p u q ⇒ HandOver ∥ orphan p q ⇒ Orphan ∥ done p u q)
 unfolding done ownGain handOver orphan
-done-then p u (Make i s g) = refl
-done-then p u (Put x g) = refl
-done-then p u (Take x g) = refl
-done-then p u (Appoint i k h a b) = refl
-done-then p u (Dismiss i) = refl
-done-then p u (Grant i v t o) = refl
-done-then p u (Withdraw i) = refl
-done-then p u (Use x k) = go (permitting p u k x)
+passed-then p u (Make i s g) = refl
+passed-then p u (Put x g) = go (ownGain p u (Put x g)) (handOver p u (Put x g))
+  where
+    go : (s t : Bool)
+        → (changes (s ⇒ OwnGain ∥ t ⇒ HandOver ∥ Done) ⇒ Done ∥ s ⇒ OwnGain ∥ t ⇒ HandOver ∥ Done) ≡ (s ⇒ OwnGain ∥ t ⇒ HandOver ∥ Done)
+    go true t = refl
+    go false true = refl
+    go false false = refl
+passed-then p u (Take x g) = refl
+passed-then p u (Appoint i k h a b) = refl
+passed-then p u (Dismiss i) = refl
+passed-then p u (Grant i v t o) = refl
+passed-then p u (Withdraw i) = refl
+passed-then p u (Use x k) = go (permitting p u k x)
   where
     go : (w : Place) → (changes (doneBy w) ⇒ Done ∥ doneBy w) ≡ doneBy w
     go (At i) = refl
@@ -124,19 +130,19 @@ module _ (p : Policy) (b : List ℕ) (u : ℕ) (q : Request) where
   unfolding first
   formed-is = refl
 
-  allowed-is : allowedBy p u q ≡ first (rights p u q) unrighted (done p u q)
+  allowed-is : allowedBy p u q ≡ first (rights p u q) unrighted (passedBy p u q)
   unfolding first
   allowed-is = refl
 
-  last-is : (changes (done p u q) ⇒ harmlessBy p u q ∥ done p u q) ≡ first (harms p u q) harmed (done p u q)
+  last-is : (changes (passedBy p u q) ⇒ harmlessBy p u q ∥ passedBy p u q) ≡ first (harms p u q) harmed (done p u q)
   unfolding first
-  last-is = done-then p u q
+  last-is = passed-then p u q
 
   allowed-then : (changes (allowedBy p u q) ⇒ harmlessBy p u q ∥ allowedBy p u q)
       ≡ first (rights p u q) unrighted (first (harms p u q) harmed (done p u q))
   allowed-then =
       ap (λ (v : Verdict). changes v ⇒ harmlessBy p u q ∥ v) allowed-is
-      ∙ first-then (rights p u q) unrighted (done p u q) (harmlessBy p u q) refuse-unrighted
+      ∙ first-then (rights p u q) unrighted (passedBy p u q) (harmlessBy p u q) refuse-unrighted
       ∙ ap (λ (v : Verdict). first (rights p u q) unrighted v) last-is
 
   formed-then : (changes (formedBy p b u q) ⇒ allowedBy p u q ∥ formedBy p b u q) ≡ first (forms p b u q) deformed (allowedBy p u q)

@@ -14,9 +14,11 @@ use Rattle.rules.specs.Refusals.{torn, unknown, misfit, stranger, offTheSheet, 
 use Rattle.rules.specs.Refusals.{handOver, orphan}
 use Rattle.rules.specs.Doing.{after}
 use Rattle.rules.specs.Judging.{done, accepted, judge}
+use Rattle.gains.specs.Giving.{givenBy}
 use Rattle.judge.specs.declared.Asked.{Asked}
 use Rattle.judge.specs.declared.Decision.{Decision}
 use Rattle.judge.specs.Naming.{namedBy}
+use Rattle.judge.specs.Kind.{isPut}
 
 -- The verdict changes the policy: it is done, and no USE.
 abbrev pub changes : Verdict → Bool
@@ -47,13 +49,16 @@ formedBy p b u q =
     wrongSort p q ⇒ WrongSort ∥
     Done
 
--- Checks 8 and 9, after which a USE is done.
-abbrev pub allowedBy : Policy → ℕ → Request → Verdict
-allowedBy p u q = alreadySo p q ⇒ AlreadySo ∥ noAuthority p u q ⇒ NoAuthority ∥ done p u q
+-- Checks 8 and 9, after which a USE is done; and of a PUT checks 10 and 11, which go by the same climbs.
+abbrev pub passedBy : Policy → ℕ → Request → Verdict
+passedBy p u q = isPut q ⇒ givenBy p u q ∥ done p u q
 
--- Checks 10 to 12.
+abbrev pub allowedBy : Policy → ℕ → Request → Verdict
+allowedBy p u q = alreadySo p q ⇒ AlreadySo ∥ noAuthority p u q ⇒ NoAuthority ∥ passedBy p u q
+
+-- Checks 10 to 12, of which a PUT has none left.
 abbrev pub harmlessBy : Policy → ℕ → Request → Verdict
-harmlessBy p u q = ownGain p u q ⇒ OwnGain ∥ handOver p u q ⇒ HandOver ∥ orphan p q ⇒ Orphan ∥ Done
+harmlessBy p u q = isPut q ⇒ Done ∥ ownGain p u q ⇒ OwnGain ∥ handOver p u q ⇒ HandOver ∥ orphan p q ⇒ Orphan ∥ Done
 
 -- The record, read, what stands at the place that it names, and what the first seven checks say of it.
 abbrev pub readOf : Policy → List ℕ → Asked

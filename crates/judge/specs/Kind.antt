@@ -15,10 +15,20 @@ isUse (Grant i u t o) = false
 isUse (Withdraw i) = false
 isUse (Use x k) = true
 
--- A request of this kind can give its sender u a holding, or hand something over (checks 10 and 11). Who appoints another gains nothing.
+abbrev pub isPut : Request → Bool
+isPut (Make i s g) = false
+isPut (Put x g) = true
+isPut (Take x g) = false
+isPut (Appoint i k h a b) = false
+isPut (Dismiss i) = false
+isPut (Grant i u t o) = false
+isPut (Withdraw i) = false
+isPut (Use x k) = false
+
+-- It is no PUT, and can give its sender u a holding (check 10). Who appoints another gains nothing.
 abbrev pub canGain : ℕ → Request → Bool
 canGain u (Make i s g) = false
-canGain u (Put x g) = true
+canGain u (Put x g) = false
 canGain u (Take x g) = false
 canGain u (Appoint i k h a b) = eqb h u
 canGain u (Dismiss i) = false

@@ -1,7 +1,7 @@
 // Which checks a request of each kind can fail, by its kind alone: a check that it cannot fail is not asked, and the policy
 // is not handed on to it.
 ghost use mathlib.Core.Path.{_≡_};
-ghost use Rattle.judge.specs.Kind.{isUse, canGain, canOrphan};
+ghost use Rattle.judge.specs.Kind.{isUse, isPut, canGain, canOrphan};
 use rules::Request;
 
 // Whether it is a USE.
@@ -20,13 +20,29 @@ pub fn is_use(q: Request) -> bool
     }
 }
 
-// Whether it can give its sender a holding, or hand something over (checks 10 and 11). Who appoints another gains nothing.
+// Whether it is a PUT.
+pub fn is_put(q: Request) -> bool
+    ensures { λ r. ⌜ r ≡ isPut q ⌝ }
+{
+    match q {
+        Request::Make { .. } => false,
+        Request::Put { .. } => true,
+        Request::Take { .. } => false,
+        Request::Appoint { .. } => false,
+        Request::Dismiss { .. } => false,
+        Request::Grant { .. } => false,
+        Request::Withdraw { .. } => false,
+        Request::Use { .. } => false,
+    }
+}
+
+// Whether it is no PUT, and can give its sender a holding (check 10). Who appoints another gains nothing.
 pub fn can_gain(u: u8, q: Request) -> bool
     ensures { λ r. ⌜ r ≡ canGain u q ⌝ }
 {
     match q {
         Request::Make { .. } => false,
-        Request::Put { .. } => true,
+        Request::Put { .. } => false,
         Request::Take { .. } => false,
         Request::Appoint { holder, .. } => holder == u,
         Request::Dismiss { .. } => false,

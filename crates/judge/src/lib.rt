@@ -5,13 +5,14 @@ ghost use Rattle.reach.specs.Tests.{_⇒_∥_};
 ghost use Rattle.rules.specs.Judging.{judge, OneAnswer};
 ghost use mathlib.Core.Bool.{false};
 ghost use Rattle.judge.specs.Naming.{namedBy};
-ghost use Rattle.judge.specs.Kind.{isUse};
+ghost use Rattle.judge.specs.Kind.{isUse, isPut};
 ghost use Rattle.judge.specs.Answering.{answered, answerBy, changes, decided, formedBy, allowedBy, harmlessBy, readOf};
 
 mod authority;
 mod doing;
 mod form;
 mod gaining;
+mod giving;
 mod kinds;
 mod numbers;
 mod orphans;
@@ -33,9 +34,11 @@ use form::wrong_sort;
 use frame::byte;
 pub use gaining::own_gain_of;
 pub use gaining::permission_gained;
-use gains::giving;
+use gains::put_verdict;
+use giving::giving;
 use kinds::can_gain;
 use kinds::can_orphan;
+use kinds::is_put;
 use kinds::is_use;
 pub use numbers::cited_of;
 pub use numbers::code_of;
@@ -142,9 +145,10 @@ fn read(p: Policy, bytes: &[u8]) -> Asked
     }
 }
 
-// Checks 8 and 9 of all but a USE: what the sender holds over the two objects that the request is about is asked of the policy once.
+// Checks 8 and 9 of what is no USE and no PUT: what the sender holds over the two objects that the request is about is asked of the policy
+// once.
 fn entitled(p: Policy, named: Named, u: u8, q: Request) -> Verdict
-    ensures { λ r. ⌜ (named ≡ namedBy p q → isUse q ≡ false → r ≡ allowedBy p u q) ⌝ }
+    ensures { λ r. ⌜ (named ≡ namedBy p q → isUse q ≡ false → isPut q ≡ false → r ≡ allowedBy p u q) ⌝ }
 {
     let held = p.held(u, first_of(named, q), second_of(named, q));
     if already_so(named, held, q) {
@@ -156,7 +160,7 @@ fn entitled(p: Policy, named: Named, u: u8, q: Request) -> Verdict
     Verdict::Done
 }
 
-// Checks 8 and 9, after those before; a USE that passes is done.
+// Checks 8 and 9, after those before; a USE that passes is done, and of a PUT checks 10 and 11 are asked here too.
 fn allowed(p: Policy, asked: Asked) -> Verdict
     ensures { λ r. ⌜ (asked .named ≡ namedBy p (asked .request) →
         r ≡ (changes (asked .verdict) ⇒ allowedBy p (asked .sender) (asked .request) ∥ asked .verdict)) ⌝ }
@@ -171,10 +175,14 @@ fn allowed(p: Policy, asked: Asked) -> Verdict
         return used(p, u, q);
     }
     let named = asked.named;
+    if is_put(q) {
+        return put_verdict(p, u, first_of(named, q), second_of(named, q));
+    }
     entitled(p, named, u, q)
 }
 
-// Checks 10 to 12, after those before: what the request would give, and what it would leave without an owner.
+// Checks 10 to 12, after those before: what the request would give, and what it would leave without an owner. Of a PUT there is nothing
+// left to ask.
 fn harmless(p: Policy, u: u8, q: Request, v: Verdict) -> Verdict
     ensures { λ r. ⌜ r ≡ (changes v ⇒ harmlessBy p u q ∥ v) ⌝ }
 {

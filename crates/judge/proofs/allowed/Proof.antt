@@ -1,9 +1,9 @@
--- A USE is decided by the rules, and all else by what its sender holds. A USE is nothing that can be so already.
+-- A USE is decided by the rules, and all else by what its sender holds: a PUT with what it gives. A USE is nothing that can be so already.
 use mathlib.Core.Path.{_≡_, sym, _∙_}
 use mathlib.Core.Bool.{true, false}
 use borrow.Author.Tests.{not-true, not-false}
 use Rattle.judge.specs.Answering.{changes}
-use Rattle.judge.proofs.Staging.{stays, goes-on, use-allowed}
+use Rattle.judge.proofs.Staging.{stays, goes-on, use-allowed, put-allowed}
 use borrow.Author.Needs.{needs}
 use Rattle.judge.proofs.allowed.Statement.{statement}
 use Rattle.judge.proofs.allowed.Tie as tie
@@ -23,9 +23,20 @@ returns-2 c =
 
 returns-3 : tie.Need-returns-3
 returns-3 c =
-    let kind = c .before .before .before in
+    let second = c .before in
+    let first = second .before in
+    let put = first .before .before in
+    let kind = put .before .before .before in
     λ n. goes-on (kind .before .before .before .args .asked .verdict) _ (passed (kind .before))
-    (c .entitled .ensures n (sym (kind .is-use .ensures) ∙ c .before .before .if2 .left))
+    (put-allowed _ _ _ (kind .before .before .before .args .asked .named) (sym (put .is-put .ensures) ∙ first .before .if3 .taken)
+    (first .first-of .ensures) (second .second-of .ensures) (c .put-verdict .ensures))
+
+returns-4 : tie.Need-returns-4
+returns-4 c =
+    let put = c .before .before in
+    let kind = put .before .before .before in
+    λ n. goes-on (kind .before .before .before .args .asked .verdict) _ (passed (kind .before))
+    (c .entitled .ensures n (sym (kind .is-use .ensures) ∙ put .before .before .if2 .left) (sym (put .is-put .ensures) ∙ c .before .if3 .left))
 
 pub allowed-spec : {M : Type 1} → statement M
 allowed-spec =
@@ -37,4 +48,9 @@ allowed-spec =
     (λ c κs. search needs)
     returns-2
     (λ c κs. search needs)
-    returns-3)
+    (λ c κs. search needs)
+    (λ c κs. search needs)
+    (λ c κs. search needs)
+    returns-3
+    (λ c κs. search needs)
+    returns-4)

@@ -35,14 +35,15 @@ fact-9 c n e =
     ∙ entitled-found _ _ _ n (first .first-of .ensures) (second .second-of .ensures) (held .held .ensures) e)
 
 returns : tie.Need-returns
-returns c = λ n e. so-already _ _ _ (fact-8 (c .before) n ∙ c .if1 .taken)
+returns c = λ n e m. so-already _ _ _ (fact-8 (c .before) n ∙ c .if1 .taken)
 
 returns-2 : tie.Need-returns-2
-returns-2 c = λ n e. not-entitled _ _ _ (fact-8 (c .before .before .before) n ∙ c .before .before .if1 .left) (fact-9 (c .before) n e ∙ c .if2 .taken)
+returns-2 c = λ n e m. not-entitled _ _ _ (fact-8 (c .before .before .before) n ∙ c .before .before .if1 .left) (fact-9 (c .before) n e ∙ c .if2 .taken)
 
 returns-3 : tie.Need-returns-3
 returns-3 c =
-    λ n e. is-entitled _ _ _ (fact-8 (c .before .before .before) n ∙ c .before .before .if1 .left) (fact-9 (c .before) n e ∙ c .if2 .left) e
+    λ n e m.
+    is-entitled _ _ _ (fact-8 (c .before .before .before) n ∙ c .before .before .if1 .left) (fact-9 (c .before) n e ∙ c .if2 .left) e m
 
 pub entitled-spec : {M : Type 1} → statement M
 entitled-spec =

@@ -51,8 +51,9 @@ returns-4 c =
 returns-5 : tie.Need-returns-5
 returns-5 c =
     let gain = c .before .before .before in
-    goes-on (gain .before .before .before .args .v) _ (passed (gain .before))
-    (orphan-harmless _ _ _ (sized (gain .before .before .before)) (sym (gain .can-gain .ensures) ∙ c .before .before .if2 .left)
+    let a = gain .before .before .before .args in
+    goes-on (a .v) _ (passed (gain .before))
+    (orphan-harmless _ (a .u) (a .q) (sized (gain .before .before .before)) (sym (gain .can-gain .ensures) ∙ c .before .before .if2 .left)
     (no-orphan _ _ (sym (c .before .can-orphan .ensures) ∙ c .if3 .left)))
 
 pub harmless-spec : {M : Type 1} → statement M
