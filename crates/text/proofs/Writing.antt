@@ -28,15 +28,15 @@ pub holds-whole : {buffer : Bytes} {n : ℕ} {text : Bytes}
     → take n buffer ≡ text
 holds-whole {buffer} {n} {text} h room = h .same ∙ take-all (length buffer) text room
 
--- A byte stored at n, inside the buffer, is written there.
-pub wrote-byte : (buffer : Bytes) (n byte : ℕ) → n < length buffer → Wrote buffer n (byte ∷ []) (set buffer n byte) (n + 1)
-wrote-byte buffer n byte room = record {
+-- A byte stored at n, inside the buffer, is written there, and the next one goes to the place behind it.
+pub wrote-byte : (buffer : Bytes) (n byte r : ℕ) → n < length buffer → r ≡ n + 1 → Wrote buffer n (byte ∷ []) (set buffer n byte) r
+wrote-byte buffer n byte r room next = rw next (record {
   length-kept = simp length-set;
   extends = extended;
   onward = omega arith;
   nothing-past = λ past. absurd (omega arith);
   rest-kept = drop-set-lt (n + 1) buffer n byte (omega arith);
-}
+})
   where
     extended : (text : Bytes) → Holds buffer n text → Holds (set buffer n byte) (n + 1) (text ++ (byte ∷ []))
     extended text h =
@@ -97,6 +97,11 @@ wrote-then {a} {v} {b} {n = n} {m} {r} p q = record {
       (second .0 ∙ first .0, second .1 ∙ first .1);
   rest-kept = q .rest-kept ∙ drop-further b a (p .rest-kept) (q .onward);
 }
+
+-- A text and behind it one byte, however that byte was worked out.
+pub wrote-sign : {a v b c : Bytes} {n m r byte : ℕ} (sign : ℕ) → Wrote a n v b m → Wrote b m (byte ∷ []) c r → byte ≡ sign
+    → Wrote a n (v ++ (sign ∷ [])) c r
+wrote-sign sign p q e = wrote-then p (rw e at q)
 
 -- A text of which the first i bytes are written, and then the next one.
 pub record Putting (text a : Bytes) (n : ℕ) (b : Bytes) (m i : ℕ) : Type 0 where

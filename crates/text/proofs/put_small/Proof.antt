@@ -9,14 +9,14 @@ use Rattle.text.proofs.put_small.Statement.{statement}
 use Rattle.text.proofs.put_small.Tie as tie
 
 returns : tie.Need-returns
-returns c = wrote-as (sym (decimal-digit _ (c .before .before .before .before .if1 .taken))) (c .before .before .put-byte .ensures)
+returns c = wrote-as (sym (decimal-digit _ (omega (arith, c .before .before .before .before .if1 .taken)))) (c .before .before .put-byte .ensures)
 
 returns-2 : tie.Need-returns-2
 returns-2 c =
     let last = c .before .before in
     let first = last .before .before .before .before in
     wrote-as
-    (sym (decimal-two _ (first .before .before .before .if1 .left) (first .before .before .if2 .taken)))
+    (sym (decimal-two _ (omega (arith, first .before .before .before .if1 .left)) (omega (arith, first .before .before .if2 .taken))))
     (wrote-then (first .put-byte2 .ensures) (last .put-byte3 .ensures))
 
 returns-3 : tie.Need-returns-3
@@ -26,7 +26,7 @@ returns-3 c =
     let first = second .before .before .before .before in
     let small : first .before .before .before .before .before .args .x < 256 = search needs in
     wrote-as
-    (sym (decimal-three _ (first .before .before .if2 .left) (omega (arith, small))))
+    (sym (decimal-three _ (omega (arith, first .before .before .if2 .left)) (omega (arith, small))))
     (wrote-then (wrote-then (first .put-byte4 .ensures) (second .put-byte5 .ensures)) (last .put-byte6 .ensures))
 
 pub put-small-spec : {M : Type 1} → statement M
