@@ -30,7 +30,7 @@ loop-again-2 : tie.Need-loop-again-2 Inv-loop μ-loop
 loop-again-2 c =
     let t = c .before .before .before in
     let k = t .before .loop .inv .1 in
-    (search needs, look-empty k (unused-unknown _ _ _ (t .loop-test .taken) (c .if2 .taken)))
+    (search needs, look-empty k (unused-unknown _ _ _ (t .loop-test .taken) (omega (arith, c .if2 .taken))))
 
 loop-again-3 : tie.Need-loop-again-3 Inv-loop μ-loop
 loop-again-3 c =
@@ -38,7 +38,7 @@ loop-again-3 c =
     let t = f .before .before .before in
     let k = t .before .loop .inv .1 in
     let low = t .loop-test .taken in
-    (search needs, look-left k low (in-use-byte _ _ _ low (f .before .if1 .left) (f .if2 .left)) (look-not k _ (omega (arith, c .if4 .taken))))
+    (search needs, look-left k low (in-use-byte _ _ _ low (f .before .if1 .left) (omega (arith, f .if2 .left))) (look-not k _ (omega (arith, c .if4 .taken))))
 
 -- The object is owned: its row meets the groups, or the set has it.
 owned : (c : tie.Joined3 Inv-loop μ-loop) → let l = c .before .before .before .before .before .before .loop in
@@ -50,7 +50,7 @@ owned c =
     let f = c .before .before in
     let t = f .before .before .before in
     let low = t .loop-test .taken in
-    look-met (t .before .loop .inv .1) _ low (in-use-byte _ _ _ low (f .before .if1 .left) (f .if2 .left))
+    look-met (t .before .loop .inv .1) _ low (in-use-byte _ _ _ low (f .before .if1 .left) (omega (arith, f .if2 .left)))
     (⊎-elim (λ w. inr (w .1 .left)) (λ w. inl (w .left)) (c .if3 .came))
 
 loop-again-4 : tie.Need-loop-again-4 Inv-loop μ-loop
