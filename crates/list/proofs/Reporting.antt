@@ -132,11 +132,15 @@ printed-founding e k = rw e at (k .text)
 
 -- ---- The limit on the input
 
+-- "too long" and the byte behind it.
+abbrev tooLongThen : ℕ → Bytes
+tooLongThen end = 116 ∷ 111 ∷ 111 ∷ 32 ∷ 108 ∷ 111 ∷ 110 ∷ 103 ∷ end ∷ []
+
 -- An input past the limit.
-pub printed-too-long : (b : Bytes) {out out′ text : Bytes} {r : ℕ} → 65536 < length b → Wrote out 0 text out′ r
-    → text ≡ tooLong → Printed out (output b) out′ r
+pub printed-too-long : (b : Bytes) {out out′ : Bytes} {end r : ℕ} → 65536 < length b → Wrote out 0 (tooLongThen end) out′ r
+    → end ≡ 10 → Printed out (output b) out′ r
 unfolding output
-printed-too-long b h w e = rw (lt-ltb 65536 (length b) h) (printed-of-wrote (wrote-as e w))
+printed-too-long b h w e = rw (lt-ltb 65536 (length b) h) (printed-of-wrote (wrote-as (ap tooLongThen e) w))
 
 -- An input within it.
 pub printed-report : (b : Bytes) {out out′ : Bytes} {r : ℕ} → length b ≤ 65536 → Printed out (report b) out′ r

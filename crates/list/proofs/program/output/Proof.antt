@@ -1,6 +1,5 @@
 -- `output` prints what the program prints: past the limit the line that says so, else the report. Demand 3 holds of the records of any
 -- input (`third`).
-use mathlib.Core.Path.{refl}
 use native.Mathlib.Omega.{arith}
 use Rattle.list.proofs.Demanded.{third}
 use Rattle.list.proofs.Reporting.{printed-too-long, printed-report}
@@ -10,7 +9,7 @@ use Rattle.list.proofs.program.output.Tie as tie
 
 returns : tie.Need-returns
 returns c = (
-  printed-too-long _ (omega (arith, c .before .before .before .before .before .if1 .taken)) (c .before .before .put-bytes .ensures) refl,
+  printed-too-long _ (omega (arith, c .before .before .before .before .before .if1 .taken)) (c .before .before .put-bytes .ensures) (omega arith),
   third _,
 )
 
