@@ -176,7 +176,9 @@ fn allowed(p: Policy, asked: Asked) -> Verdict
     }
     let named = asked.named;
     if is_put(q) {
-        return put_verdict(p, u, first_of(named, q), second_of(named, q));
+        let object = first_of(named, q);
+        let group = second_of(named, q);
+        return put_verdict(p, u, object, group);
     }
     entitled(p, named, u, q)
 }

@@ -1,6 +1,7 @@
 -- A USE is decided by the rules, and all else by what its sender holds: a PUT with what it gives. A USE is nothing that can be so already.
 use mathlib.Core.Path.{_≡_, sym, _∙_}
 use mathlib.Core.Bool.{true, false}
+use native.Mathlib.Omega.{arith}
 use borrow.Author.Tests.{not-true, not-false}
 use Rattle.judge.specs.Answering.{changes}
 use Rattle.judge.proofs.Staging.{stays, goes-on, use-allowed, put-allowed}
@@ -29,7 +30,7 @@ returns-3 c =
     let kind = put .before .before .before in
     λ n. goes-on (kind .before .before .before .args .asked .verdict) _ (passed (kind .before))
     (put-allowed _ _ _ (kind .before .before .before .args .asked .named) (sym (put .is-put .ensures) ∙ first .before .if3 .taken)
-    (first .first-of .ensures) (second .second-of .ensures) (c .put-verdict .ensures))
+    (omega (arith, first .first-of .ensures)) (omega (arith, second .second-of .ensures)) (c .put-verdict .ensures))
 
 returns-4 : tie.Need-returns-4
 returns-4 c =
