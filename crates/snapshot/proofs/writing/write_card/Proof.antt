@@ -1,11 +1,13 @@
 -- `write_card` answers by the three cases of its contract: not sound, too few bytes, and else the file, penned over the first of them.
-use mathlib.Core.Path.{ap}
+use mathlib.Core.Path.{_≡_, ap}
 use Prim.Native.Nat.{ℕ, _≤_, _<_}
 use native.Mathlib.Omega.{arith}
 use borrow.Author.Tests.{not-true, not-false}
 use Rattle.reach.proofs.Testing.{refuted}
-use Rattle.snapshot.specs.declared.Status.the-variants.{Done}
-use Rattle.snapshot.specs.Answers.{Writes}
+use Rattle.snapshot.specs.declared.Status.{Status}
+use Rattle.snapshot.specs.declared.Status.the-variants.{Done, Damaged, Short}
+use Rattle.snapshot.specs.declared.Written.{Written}
+use Rattle.snapshot.specs.Answers.{codeOf, Writes}
 use Rattle.snapshot.proofs.Penning.{over-of-penned, length-of-penned}
 use borrow.Author.Needs.{needs}
 use Rattle.snapshot.proofs.writing.write_card.Statement.{statement}
@@ -14,10 +16,24 @@ use Rattle.snapshot.proofs.writing.write_card.Tie as tie
 enough : (room n : ℕ) → (room < n → ⊥) → n ≤ room
 enough room n few = omega (arith, few)
 
+-- What is refused, by the number of its status.
+abbrev refusal : Status → Written
+refusal s = record { status = s; length = 0 }
+
+damaged-of-code : {r : Written} {s : Status} → r ≡ refusal s → codeOf s ≡ 13 → r ≡ refusal Damaged
+damaged-of-code {s = Done} is e = absurd (omega (arith, e))
+damaged-of-code {s = Damaged} is e = is
+damaged-of-code {s = Short} is e = absurd (omega (arith, e))
+
+short-of-code : {r : Written} {s : Status} → r ≡ refusal s → codeOf s ≡ 14 → r ≡ refusal Short
+short-of-code {s = Done} is e = absurd (omega (arith, e))
+short-of-code {s = Damaged} is e = absurd (omega (arith, e))
+short-of-code {s = Short} is e = is
+
 returns : tie.Need-returns
 returns c =
     Writes.damaged (refuted (c .before .before .is-sound .ensures) (not-true _ (c .before .if1 .taken)))
-    (search (needs, c .refused .ensures)) (search needs)
+    (damaged-of-code (c .refused .ensures) (omega arith)) (search needs)
 
 too-few-requires : tie.Need-too-few-requires
 too-few-requires c κs = c .before .is-sound .ensures .sound (not-false _ (c .if1 .left))
@@ -28,7 +44,7 @@ returns-2 c =
     Writes.short
     (asked .before .before .is-sound .ensures .sound (not-false _ (asked .before .if1 .left)))
     (asked .too-few .ensures .sound (c .before .if2 .taken))
-    (search (needs, c .refused2 .ensures))
+    (short-of-code (c .refused2 .ensures) (omega arith))
     (search needs)
 
 same-length : tie.Need-same-length
