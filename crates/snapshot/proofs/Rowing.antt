@@ -152,12 +152,12 @@ module _ (groups x : ℕ) where
           ∙ ap (λ (b : Bytes). from (w .place) 0 place-bytes ++ b) between
           ∙ append-nil (from (w .place) 0 place-bytes)
 
-      here : place-bytes low ≡ bytesOf (Membership x low)
-      here = rw (sym (w .from-there low onward) ∙ lowest-has left some (w .word))
+      here : {y g : ℕ} → y ≡ x → g ≡ low → bytesOf (Membership y g) ≡ place-bytes low
+      here e f = rw (e, f, sym (w .from-there low onward) ∙ lowest-has left some (w .word))
 
-      pub rowing-next : {o″ : Bytes} {b : Pen} → Penned o′ a (bytesOf (Membership x low)) o″ b
+      pub rowing-next : {o″ : Bytes} {b : Pen} {y g : ℕ} → Penned o′ a (bytesOf (Membership y g)) o″ b → y ≡ x → g ≡ low
           → Rowing o pen (bitAnd left (2 ^ 64 - 1 - (1 * 2 ^ low) % 2 ^ 64)) o″ b
-      rowing-next q =
+      rowing-next q object group =
           record {
             place = low + 1;
             within = omega (arith, lowest-low left some (w .word));
@@ -167,7 +167,7 @@ module _ (groups x : ℕ) where
                 ∙ ap (λ (t : Bool). t ⇒ false ∥ has left k) (ne-eqb k low (λ e. omega arith))
                 ∙ w .from-there k (omega (arith, onward));
             none-before = λ k l. rest-has left some (w .word) k ∙ below k (below-next k low l);
-            penned = penned-as (sym (from-more low place-bytes)) (penned-then (penned-as (sym up-to) (w .penned)) (penned-as (sym here) q));
+            penned = penned-as (sym (from-more low place-bytes)) (penned-then (penned-as (sym up-to) (w .penned)) (penned-as (here object group) q));
           }
         where
           below : (k : ℕ) → (k ≡ low) ⊎ (k < low) → (eqb k low ⇒ false ∥ has left k) ≡ false

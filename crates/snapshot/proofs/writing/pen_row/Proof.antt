@@ -34,7 +34,7 @@ loop-less c = let t = c .before .before .before .before in rest-less _ (t .loop-
 loop-again : tie.Need-loop-again Inv-loop μ-loop
 loop-again c =
     let t = c .before .before .before .before in
-    rowing-next _ _ (t .before .loop .inv) (t .loop-test .taken) (search (needs, c .before .before .pen-entry .ensures))
+    rowing-next _ _ (t .before .loop .inv) (t .loop-test .taken) (c .before .before .pen-entry .ensures) (omega arith) (omega arith)
 
 same-length : tie.Need-same-length Inv-loop μ-loop
 same-length c = rowing-length _ _ (c .before .loop .inv)
