@@ -15,9 +15,6 @@ abbrev μ-loop : tie.MeasureT-loop
 loop-holds : tie.Need-loop-holds Inv-loop μ-loop
 loop-holds c = rowing-start _ _ _ _ (search needs)
 
-cast-t11 : tie.Need-cast-t11 Inv-loop μ-loop
-cast-t11 c = let t = c .before in search (needs, lowest-low _ (t .loop-test .taken) (t .before .loop .inv .word))
-
 pen-entry-requires : tie.Need-pen-entry-requires Inv-loop μ-loop
 pen-entry-requires c κs =
     let few = rowing-needed _ _ (c .before .before .loop .inv) in omega (arith, few, c .before .before .before .before .pre)
@@ -49,7 +46,7 @@ pen-row-spec =
     Inv-loop
     μ-loop
     loop-holds
-    cast-t11
+    (λ c. let t = c .before in search (needs, lowest-low _ (t .loop-test .taken) (t .before .loop .inv .word)))
     pen-entry-requires
     cast-left
     shl-left
