@@ -63,10 +63,25 @@ abbrev pub tabled : List ℕ → List ℕ → List Appointment → List AccessRu
 tabled sorts memberships appointments rules =
     record { sorts = sorts; memberships = memberships; appointments = appointments; rules = rules }
 
-pub loading-start : (kept : Policy) (b : Bytes)
-    → PartRead kept b (tabled (replicate 64 0) (replicate 64 0) (replicate 32 noAppointment) (replicate 64 noRule)) 0 0
+-- It starts with the same in every place of a table: zeros.
+pub loading-start : (kept : Policy) (b : Bytes) {kind holder x y users targets operations : ℕ} → kind + holder + x + y ≡ 0
+    → users + targets + operations ≡ 0
+    → PartRead kept b
+    (tabled
+    (replicate 64 0)
+    (replicate 64 0)
+    (replicate 32 (record { kind = kind; holder = holder; a = x; b = y }))
+    (replicate 64 (record { used = false; users = users; targets = targets; operations = operations }))) 0 0
 unfolding blank
-loading-start kept b = record { within = omega arith; left = length b; enough = omega arith; whole = refl }
+loading-start kept b {kind} {holder} {x} {y} {users} {targets} {operations} w r =
+    let f : kind ≡ 0 = omega (arith, w) in
+    let g : holder ≡ 0 = omega (arith, w) in
+    let h : x ≡ 0 = omega (arith, w) in
+    let i : y ≡ 0 = omega (arith, w) in
+    let j : users ≡ 0 = omega (arith, r) in
+    let k : targets ≡ 0 = omega (arith, r) in
+    let l : operations ≡ 0 = omega (arith, r) in
+    record { within = omega arith; left = length b; enough = omega arith; whole = rw (f, g, h, i, j, k, l) }
 
 module _ {kept : Policy} {b : Bytes} {p : Policy} {n at : ℕ} (w : PartRead kept b p n at) where
   pub loading-end : length b ≤ at → loaded p ≡ load kept (length b) blank 0 b

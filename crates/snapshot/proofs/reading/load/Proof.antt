@@ -20,7 +20,7 @@ abbrev μ-loop : tie.MeasureT-loop
     length card - at
 
 loop-holds : tie.Need-loop-holds Inv-loop μ-loop
-loop-holds c = let start = c .before .args in search (needs, loading-start (start .kept) (start .card .now))
+loop-holds c = loading-start _ _ (omega arith) (omega arith)
 
 returns : tie.Need-returns Inv-loop μ-loop
 returns c =
