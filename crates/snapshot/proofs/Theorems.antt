@@ -82,10 +82,10 @@ given kept p b f =
     a = load-back kept (view p)
 
 module _ (kept : Policy) (b : Bytes) {r : Loaded} (e : r ≡ load kept (length b) blank 0 b) {t : Bool} {asked : Policy}
-    (same : asked ≡ r .policy) (tested : Decides t (Sound (view asked))) where
+    (same : asked ≡ load kept (length b) blank 0 b .policy) (tested : Decides t (Sound (view asked))) where
   -- Whether the policy that was loaded is sound.
   d : Decides t (Sound (view (r .policy)))
-  d = subst (λ (p : Policy). Decides t (Sound (view p))) same tested
+  d = subst (λ (p : Policy). Decides t (Sound (view p))) (same ∙ ap (λ (x : Loaded). x .policy) (sym e)) tested
 
   none-of-unsound : t ≡ false → (p : Policy) → FileOf p b → ⊥
   none-of-unsound q p f = refuted d q (subst (λ (x : Loaded). Sound (view (x .policy))) (sym e) (given kept p b f .sound))
