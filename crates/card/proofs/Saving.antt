@@ -76,14 +76,13 @@ saves-done input {p} {card} {card′} {line} {line′} {w} {n} h is room writes 
     }
 
 -- The same of the part of a buffer, with the policy that is written apart from the one that the list leaves.
-pub saves-part : (read : ℕ) (buffer : Bytes) {founding left p : Policy} {card card′ line line′ : Bytes} {w : Written} {end n : ℕ}
+pub saves-part : (read : ℕ) (buffer : Bytes) {founding p : Policy} {card card′ line line′ : Bytes} {w : Written} {end n : ℕ}
     → end ≡ min read (length buffer) → end ≤ 65536
-    → founding ≡ initial → left ≡ run founding (recordsFrom (take end buffer) 0)
-    → length card ≡ 25376 → Writes p card card′ w → p ≡ left
+    → founding ≡ initial → length card ≡ 25376 → Writes p card card′ w → p ≡ run founding (recordsFrom (take end buffer) 0)
     → length line ≡ 16 → Printed line (savedLine (codeOf (w .status)) (w .length)) line′ n
     → Saves (take read buffer) card card′ line′ (record { fits = true; length = w .length; printed = n })
-saves-part read buffer {p = p} e h first list room writes same long printed =
-    let is : p ≡ run initial (recordsFrom (take read buffer) 0) = same ∙ (rw (first, part-read read buffer e) at list) in
+saves-part read buffer {p = p} e h first room writes list long printed =
+    let is : p ≡ run initial (recordsFrom (take read buffer) 0) = rw (first, part-read read buffer e) at list in
     saves-done (take read buffer) (omega (arith, part-read-length read buffer e)) is room writes long printed
 
 -- The card lies in its buffer, from the start on.

@@ -1,6 +1,6 @@
 -- `save_list` says `too long` past the limit, and else has the card of what the list leaves: the writer can only say that it is done
 -- (`saves-done`). A full buffer is past the limit.
-use mathlib.Core.Path.{_≡_, refl}
+use mathlib.Core.Path.{_≡_, refl, sym}
 use Prim.Native.Nat.{_<_}
 use native.Mathlib.Omega.{arith}
 use lib.ListN.{length}
@@ -34,7 +34,7 @@ returns-2 c =
     let first = founding .initial .ensures in
     let written = c .before .before .write-card .ensures in
     let said = c .put-saved .ensures in
-    let saves = saves-part _ _ end (omega (arith, cut .if1 .left)) first left room written (search needs) room-line said in
+    let saves = saves-part _ (now (start .args .input)) end (omega (arith, cut .if1 .left)) first room written (rw (sym left)) room-line said in
     (saves, λ full. absurd (omega (arith, end, full, past, cut .if1 .left)))
 
 pub save-list-spec : {M : Type 1} → statement M
