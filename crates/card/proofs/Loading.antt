@@ -71,15 +71,16 @@ load-demand : {card : Bytes} {r : Loaded} → Reads initial card r → (r .statu
 load-demand (Reads.taken c f z s) d list = d c list
 load-demand (Reads.damaged n q) d list = subst (λ (x : Loaded). Demand3 (x .policy) list) (sym q) (third list .demand)
 
--- Together, with the policy from which the input is judged apart from the one that was read.
-pub loads-all : {card input head head′ text text′ : Bytes} {n m : ℕ} {kept p : Policy} (r : Loaded) → kept ≡ initial
+-- Together, with the policies that were kept and from which the input is judged apart from the founding's and the one that was read.
+pub loads-all : {card input head head′ text text′ : Bytes} {n m : ℕ} {kept p : Policy} (r : Loaded)
     → Reads kept card r → (r .status ≡ Done → (list : List Bytes) → Demand3 (r .policy) list)
     → length head ≡ 4 → Printed head (codeLine (codeOf (r .status))) head′ n
-    → length text ≡ 212992 → Printed text (outputFrom p input) text′ m → p ≡ r .policy
+    → length text ≡ 212992 → Printed text (outputFrom p input) text′ m
+    → _≡_ {A = Policy × Policy} (kept, p) (initial, r .policy)
     → Loads card input head′ text′ (record { head = n; text = m })
-loads-all {card} {input} {text = text} {text′} {m = m} r e reads demand short first long rest same =
-    let read = subst (λ (p : Policy). Reads p card r) e reads in
-    let judged = subst (λ (p : Policy). Printed text (outputFrom p input) text′ m) same rest in
+loads-all {card} {input} {text = text} {text′} {m = m} r reads demand short first long rest are =
+    let read = subst (λ (w : Policy × Policy). Reads (w .0) card r) are reads in
+    let judged = subst (λ (w : Policy × Policy). Printed text (outputFrom (w .1) input) text′ m) are rest in
     record {
       loaded = r;
       reads = read;

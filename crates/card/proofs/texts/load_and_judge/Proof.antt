@@ -30,7 +30,7 @@ returns c =
     let reads = rw (part-read _ _ (founding .before .least .ensures)) at (told .0) in
     let printed = rw (part-read _ _ (asked .least2 .ensures)) at (c .output-from .ensures) in
     let first = founding .initial .ensures in
-    let loads = loads-all _ first reads (told .1) room (coded .put-code .ensures) room-text printed (search needs) in
+    let loads = loads-all _ reads (told .1) room (coded .put-code .ensures) room-text printed (rw first) in
     (loads, λ full. loads-full loads (full-long _ _ past full))
 
 pub load-and-judge-spec : {M : Type 1} → statement M
