@@ -71,7 +71,7 @@ load-demand : {card : Bytes} {r : Loaded} → Reads initial card r → (r .statu
 load-demand (Reads.taken c f z s) d list = d c list
 load-demand (Reads.damaged n q) d list = subst (λ (x : Loaded). Demand3 (x .policy) list) (sym q) (third list .demand)
 
--- Together, with the policies that were kept and from which the input is judged apart from the founding's and the one that was read.
+-- Together, with the kept policy apart from the founding's, and the one from which the input is judged apart from the one that was read.
 pub loads-all : {card input head head′ text text′ : Bytes} {n m : ℕ} {kept p : Policy} (r : Loaded)
     → Reads kept card r → (r .status ≡ Done → (list : List Bytes) → Demand3 (r .policy) list)
     → length head ≡ 4 → Printed head (codeLine (codeOf (r .status))) head′ n

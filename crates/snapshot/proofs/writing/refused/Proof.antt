@@ -2,7 +2,6 @@
 use mathlib.Core.Path.{ap}
 use Prim.Native.Nat.{ℕ}
 use native.Mathlib.Omega.{arith}
-use borrow.Author.Needs.{needs}
 use Rattle.snapshot.proofs.writing.refused.Statement.{statement}
 use Rattle.snapshot.proofs.writing.refused.Tie as tie
 
