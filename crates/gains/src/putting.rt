@@ -140,12 +140,13 @@ fn put_gives(p: Policy, u: u8, x: u8, g: u8, above: Climbs, posts: Posts) -> Ver
 pub fn put_verdict(p: Policy, u: u8, x: u8, g: u8) -> Verdict
     ensures { λ r. ⌜ r ≡ (alreadySo p (Put x g) ⇒ AlreadySo ∥ noAuthority p u (Put x g) ⇒ NoAuthority ∥ givenBy p u (Put x g)) ⌝ }
 {
-    if p.direct(x, g) {
+    let asked = p.placing(u, x, g);
+    if asked.direct {
         return Verdict::AlreadySo;
     }
-    let posts = p.posts(u);
-    let object = p.above(x);
-    let group = p.above(g);
+    let posts = asked.posts;
+    let object = asked.first;
+    let group = asked.second;
     if !(meets(posts, object) & meets(posts, group)) {
         return Verdict::NoAuthority;
     }

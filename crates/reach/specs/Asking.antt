@@ -11,6 +11,7 @@ use Rattle.reach.specs.declared.AccessRule.{AccessRule}
 use Rattle.reach.specs.declared.Posts.{Posts}
 use Rattle.reach.specs.declared.Over.{Over}
 use Rattle.reach.specs.declared.Held.{Held}
+use Rattle.reach.specs.declared.Placing.{Placing}
 use Rattle.reach.specs.Words.{bit, has, SetOf, Meet}
 use Rattle.reach.specs.Tests.{Some}
 use Rattle.reach.specs.Tables.{sortIn, noAppointment, View, view}
@@ -128,3 +129,10 @@ overOf p u x = record { owned = owns p u x; managed = manages p u x }
 -- What he holds over x and over y, whether he administers the pair, and whether x is directly in y.
 abbrev pub heldOf : Policy → ℕ → ℕ → ℕ → Held
 heldOf p u x y = record { first = overOf p u x; second = overOf p u y; pair = administers p u x y; direct = direct p x y }
+
+-- What u is appointed over, all that x is under and all that y is under, and whether x is directly in y.
+pub record PlacingOf (p : Policy) (u x y : ℕ) (r : Placing) : Type 0 where
+  pub posts : PostsOf (view p) u (r .posts)
+  pub first : SetOf (r .first) (λ g. Under (view p) x g)
+  pub second : SetOf (r .second) (λ g. Under (view p) y g)
+  pub is-direct : r .direct ≡ direct p x y

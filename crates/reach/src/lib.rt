@@ -89,3 +89,11 @@ pub struct Held {
     pub pair: bool,
     pub direct: bool,
 }
+
+// What a user is appointed over, all that each of two objects is under, and whether the one is directly in the other.
+pub struct Placing {
+    pub posts: Posts,
+    pub first: u64,
+    pub second: u64,
+    pub direct: bool,
+}

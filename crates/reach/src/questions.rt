@@ -5,10 +5,11 @@ ghost use Rattle.reach.specs.Words.{SetOf};
 ghost use Rattle.reach.specs.Tables.{view};
 ghost use Rattle.reach.specs.Privileges.{Owns, Manages, Administers, Permitted};
 ghost use Rattle.reach.specs.Privileges.{owns, manages, administers, permitting, orphaned};
-ghost use Rattle.reach.specs.Asking.{PostsOf, heldOf};
+ghost use Rattle.reach.specs.Asking.{PostsOf, heldOf, PlacingOf};
 use crate::Held;
 use crate::Over;
 use crate::Place;
+use crate::Placing;
 use crate::Policy;
 use crate::Posts;
 use crate::appointments::covers_pair;
@@ -128,6 +129,27 @@ impl Policy {
             first,
             second,
             pair: user & given.pair,
+            direct,
+        }
+    }
+
+    // What u is appointed over, all that x is under and all that y is under, and whether x is directly in y: what is asked of a request
+    // that puts x into y, asked at once.
+    pub fn placing(self, u: u8, x: u8, y: u8) -> Placing
+        ensures { λ r. ⌜ PlacingOf self u x y r ⌝ }
+    {
+        let sorts = self.sorts;
+        let memberships = self.memberships;
+        let posts = self.posts(u);
+        let first = climb(&sorts, &memberships, x);
+        let second = climb(&sorts, &memberships, y);
+        let used = 0 < sort_in(&sorts, x);
+        let group = sort_in(&sorts, y) == 1;
+        let direct = used & group & has(row(&memberships, x), y);
+        Placing {
+            posts,
+            first,
+            second,
             direct,
         }
     }
