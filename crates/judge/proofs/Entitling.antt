@@ -20,7 +20,7 @@ use Rattle.rules.specs.Refusals.{alreadySo, noAuthority}
 use Rattle.judge.specs.declared.records.Named.{Named}
 use Rattle.judge.specs.Naming.{namedBy}
 use Rattle.judge.specs.Holding.{firstOf, secondOf, soAlready, unentitled}
-use Rattle.judge.specs.Kind.{isUse}
+use Rattle.judge.specs.Kind.{isUse, isPut}
 use Rattle.judge.proofs.Sorting.{used-lent}
 
 module _ (p : Policy) (u : ℕ) where
@@ -30,39 +30,39 @@ module _ (p : Policy) (u : ℕ) where
   side true a b = refl
   side false a b = refl
 
-  already-is : (q : Request)
+  already-is : (q : Request) → isPut q ≡ false
       → let n = namedBy p q in
       soAlready n (heldOf p u (firstOf n q) (secondOf n q)) q ≡ alreadySo p q
   unfolding alreadySo
-  already-is (Make i s g) = used-lent p refl i
-  already-is (Put x g) = refl
-  already-is (Take x g) = refl
-  already-is (Appoint i k h a b) = ap (λ (w : Appointment). standing w) (sym (appointment-is p i))
-  already-is (Dismiss i) = refl
-  already-is (Grant i v t o) = ap (λ (r : AccessRule). r .used) (sym (rule-is p i))
-  already-is (Withdraw i) = refl
-  already-is (Use x k) = refl
+  already-is (Make i s g) e = used-lent p refl i
+  already-is (Put x g) e = absurd (true≢false e)
+  already-is (Take x g) e = refl
+  already-is (Appoint i k h a b) e = ap (λ (w : Appointment). standing w) (sym (appointment-is p i))
+  already-is (Dismiss i) e = refl
+  already-is (Grant i v t o) e = ap (λ (r : AccessRule). r .used) (sym (rule-is p i))
+  already-is (Withdraw i) e = refl
+  already-is (Use x k) e = refl
 
-  entitled-is : (q : Request) → isUse q ≡ false
+  entitled-is : (q : Request) → isUse q ≡ false → isPut q ≡ false
       → let n = namedBy p q in
       unentitled n (heldOf p u (firstOf n q) (secondOf n q)) q ≡ noAuthority p u q
   unfolding noAuthority may mayAppoint mayWithdraw
-  entitled-is (Make i s g) e = refl
-  entitled-is (Put x g) e = refl
-  entitled-is (Take x g) e = refl
-  entitled-is (Appoint i k h a b) e = side (eqb k 3) a b
-  entitled-is (Dismiss i) e =
+  entitled-is (Make i s g) e f = refl
+  entitled-is (Put x g) e f = absurd (true≢false f)
+  entitled-is (Take x g) e f = refl
+  entitled-is (Appoint i k h a b) e f = side (eqb k 3) a b
+  entitled-is (Dismiss i) e f =
       let w : Appointment = getD (p .appointments) i noAppointment in
       rw (appointment-is p i) (side (eqb (w .kind) 3) (w .a) (w .b))
-  entitled-is (Grant i v t o) e = refl
-  entitled-is (Withdraw i) e = rw (rule-is p i)
-  entitled-is (Use x k) e = absurd (true≢false e)
+  entitled-is (Grant i v t o) e f = refl
+  entitled-is (Withdraw i) e f = rw (rule-is p i)
+  entitled-is (Use x k) e f = absurd (true≢false e)
 
   -- The same of what was found and held.
   module _ (q : Request) {n : Named} {h : Held} {x y : ℕ} (named : n ≡ namedBy p q)
       (first : x ≡ firstOf n q) (second : y ≡ secondOf n q) (held : h ≡ heldOf p u x y) where
-    pub already-found : soAlready n h q ≡ alreadySo p q
-    already-found = rw (held, first, second, named) (already-is q)
+    pub already-found : isPut q ≡ false → soAlready n h q ≡ alreadySo p q
+    already-found f = rw (held, first, second, named) (already-is q f)
 
-    pub entitled-found : isUse q ≡ false → unentitled n h q ≡ noAuthority p u q
-    entitled-found e = rw (held, first, second, named) (entitled-is q e)
+    pub entitled-found : isUse q ≡ false → isPut q ≡ false → unentitled n h q ≡ noAuthority p u q
+    entitled-found e f = rw (held, first, second, named) (entitled-is q e f)

@@ -41,10 +41,10 @@ governs o = o .owned || o .managed
 abbrev pub appoints : Held → ℕ → Bool
 appoints h kind = eqb kind 3 ⇒ h .first .managed && h .second .managed ∥ h .first .owned
 
--- Check 8.
+-- Check 8 of every kind but PUT.
 abbrev pub soAlready : Named → Held → Request → Bool
 soAlready n h (Make i s g) = n .filled
-soAlready n h (Put x g) = h .direct
+soAlready n h (Put x g) = false
 soAlready n h (Take x g) = not (h .direct)
 soAlready n h (Appoint i k o a b) = n .filled
 soAlready n h (Dismiss i) = false
@@ -52,10 +52,10 @@ soAlready n h (Grant i u t o) = n .filled
 soAlready n h (Withdraw i) = false
 soAlready n h (Use x k) = false
 
--- Check 9 of every kind but USE.
+-- Check 9 of every kind but PUT and USE.
 abbrev pub unentitled : Named → Held → Request → Bool
 unentitled n h (Make i s g) = not (governs (h .first))
-unentitled n h (Put x g) = not (governs (h .first) && governs (h .second))
+unentitled n h (Put x g) = false
 unentitled n h (Take x g) = not (governs (h .first) && governs (h .second))
 unentitled n h (Appoint i k o a b) = not (appoints h k)
 unentitled n h (Dismiss i) = not (appoints h (n .appointment .kind))

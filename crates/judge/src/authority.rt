@@ -1,4 +1,5 @@
 // Checks 8 and 9, by what the sender holds over the two objects that the request is about: asked of the policy at once, and looked at here.
+// Those of a USE and of a PUT are asked elsewhere, and here they pass.
 ghost use mathlib.Core.Path.{_≡_};
 ghost use Rattle.judge.specs.Holding.{firstOf, sideOf, secondOf, governs, appoints, soAlready, unentitled};
 use crate::records::Named;
@@ -63,13 +64,13 @@ fn appoints(held: Held, kind: u8) -> bool
     }
 }
 
-// Check 8.
+// Check 8 of every kind but PUT.
 pub fn already_so(named: Named, held: Held, q: Request) -> bool
     ensures { λ r. ⌜ r ≡ soAlready named held q ⌝ }
 {
     match q {
         Request::Make { .. } => named.filled,
-        Request::Put { .. } => held.direct,
+        Request::Put { .. } => false,
         Request::Take { .. } => !held.direct,
         Request::Appoint { .. } => named.filled,
         Request::Dismiss { .. } => false,
@@ -79,13 +80,13 @@ pub fn already_so(named: Named, held: Held, q: Request) -> bool
     }
 }
 
-// Check 9 of every kind but USE, which the rules decide, and of which it says false.
+// Check 9 of every kind but PUT and USE, which the rules decide.
 pub fn no_authority(named: Named, held: Held, q: Request) -> bool
     ensures { λ r. ⌜ r ≡ unentitled named held q ⌝ }
 {
     match q {
         Request::Make { .. } => !governs(held.first),
-        Request::Put { .. } => !(governs(held.first) & governs(held.second)),
+        Request::Put { .. } => false,
         Request::Take { .. } => !(governs(held.first) & governs(held.second)),
         Request::Appoint { kind, .. } => !appoints(held, kind),
         Request::Dismiss { .. } => !appoints(held, named.appointment.kind),

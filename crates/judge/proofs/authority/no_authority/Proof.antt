@@ -6,11 +6,8 @@ use Rattle.judge.proofs.authority.no_authority.Tie as tie
 returns : tie.Need-returns
 returns c = rw (c .governs .ensures, c .before .enum-told .given .1)
 
-returns-2 : tie.Need-returns-2
-returns-2 c = rw (c .before .governs2 .ensures, c .governs3 .ensures, c .before .before .enum-told2 .given .1)
-
 returns-3 : tie.Need-returns-3
-returns-3 c = rw (c .before .governs4 .ensures, c .governs5 .ensures, c .before .before .enum-told3 .given .1)
+returns-3 c = rw (c .before .governs2 .ensures, c .governs3 .ensures, c .before .before .enum-told3 .given .1)
 
 returns-4 : tie.Need-returns-4
 returns-4 c = rw (c .appoints .ensures, c .before .before .q .given .1)
@@ -28,8 +25,6 @@ no-authority-spec =
     (λ c. search needs)
     (λ c κs. search needs)
     (λ c. search needs)
-    (λ c κs. search needs)
-    (λ c κs. search needs)
     (λ c. search needs)
     (λ c κs. search needs)
     (λ c κs. search needs)
@@ -41,7 +36,7 @@ no-authority-spec =
     (λ c. search needs)
     (λ c. search needs)
     returns
-    returns-2
+    (λ c. search needs)
     returns-3
     returns-4
     returns-5
