@@ -5,12 +5,10 @@ use Prim.Native.Nat.{ℕ}
 use Rattle.reach.specs.declared.Policy.{Policy}
 use Rattle.reach.specs.declared.Appointment.{Appointment}
 use Rattle.reach.specs.declared.AccessRule.{AccessRule}
+use Rattle.reach.specs.declared.Placing.{Placing}
 use Rattle.reach.specs.Tables.{view}
-use Rattle.reach.specs.declared.Posts.{Posts}
 use Rattle.reach.specs.Reach.{InUse, User}
-use Rattle.reach.specs.Asking.{PostsOf}
-use Rattle.gains.specs.declared.putting.Climbs.{Climbs}
-use Rattle.gains.specs.Lacking.{Above}
+use Rattle.reach.specs.Asking.{PlacingOf}
 
 -- The sorts and the memberships are those of the policy.
 pub record Lent (p : Policy) (s m : List ℕ) : Type 0 where
@@ -28,10 +26,8 @@ pub record Ruled (p : Policy) (s m : List ℕ) (l : List AccessRule) : Type 0 wh
   pub lent : Lent p s m
   pub rules : p .rules ≡ l
 
--- u is a user, and x in use; what he is appointed over is known, and what x and g are under.
-pub record Climbed (p : Policy) (u x g : ℕ) (above : Climbs) (posts : Posts) : Type 0 where
+-- u is a user and x in use, and this is what the policy answers of x and g.
+pub record Placed (p : Policy) (u x g : ℕ) (r : Placing) : Type 0 where
   pub user : User (view p) u
   pub used : InUse (view p) x
-  pub object : Above p x (above .object)
-  pub group : Above p g (above .group)
-  pub holds : PostsOf (view p) u posts
+  pub asked : PlacingOf p u x g r

@@ -13,7 +13,7 @@ ghost use Rattle.rules.specs.declared.Verdict.the-variants.{AlreadySo, NoAuthor
 ghost use Rattle.rules.specs.Refusals.{alreadySo, noAuthority};
 ghost use Rattle.gains.specs.Giving.{givenBy};
 ghost use Rattle.gains.specs.Lacking.{Grows, LacksPair, Above};
-ghost use Rattle.gains.specs.Lending.{Heard, Climbed};
+ghost use Rattle.gains.specs.Lending.{Heard, Placed};
 use crate::handing::handed;
 use crate::handing::hands_over;
 use crate::opening::is_found;
@@ -21,6 +21,7 @@ use crate::opening::put_permission;
 use crate::opening::rules_open;
 use crate::searching::fresh;
 use reach::Appointment;
+use reach::Placing;
 use reach::Policy;
 use reach::Posts;
 use reach::climb;
@@ -31,12 +32,6 @@ use reach::only_if;
 use reach::sides_of;
 use reach::sort_in;
 use rules::Verdict;
-
-// All that the object of a PUT is under, and all that its group is under, themselves too.
-struct Climbs {
-    object: u64,
-    group: u64,
-}
 
 // Whether b is in use, and u does not administer the pair of what `object` is above and b.
 pub fn lacks_first<'a>(
@@ -101,15 +96,16 @@ fn meets(posts: Posts, set: u64) -> bool
 // Checks 10 and 11 of a PUT by a user of an object in use. Into what is no group, and where the object is under the group already, it gives
 // nothing. Else its sender gains exactly if he holds the group and not the object in one of the two ways, or a pair comes, or a permission is
 // found; and it hands over exactly if he does not own the object, and some user holds the group and not the object.
-fn put_gives(p: Policy, u: u8, x: u8, g: u8, above: Climbs, posts: Posts) -> Verdict
-    ensures { λ r. ⌜ (Climbed p u x g above posts → r ≡ givenBy p u (Put x g)) ⌝ }
+fn put_gives(p: Policy, u: u8, x: u8, g: u8, asked: Placing) -> Verdict
+    ensures { λ r. ⌜ (Placed p u x g asked → r ≡ givenBy p u (Put x g)) ⌝ }
 {
     let sorts = p.sorts;
     let memberships = p.memberships;
     let appointments = p.appointments;
     let rules = p.rules;
-    let object = above.object;
-    let group = above.group;
+    let posts = asked.posts;
+    let object = asked.first;
+    let group = asked.second;
     if sort_in(&sorts, g) != 1 {
         return Verdict::Done;
     }
@@ -150,6 +146,5 @@ pub fn put_verdict(p: Policy, u: u8, x: u8, g: u8) -> Verdict
     if !(meets(posts, object) & meets(posts, group)) {
         return Verdict::NoAuthority;
     }
-    let above = Climbs { object, group };
-    put_gives(p, u, x, g, above, posts)
+    put_gives(p, u, x, g, asked)
 }

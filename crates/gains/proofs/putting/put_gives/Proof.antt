@@ -16,7 +16,7 @@ use Rattle.reach.proofs.Meeting.{read-group, climbed}
 use Rattle.rules.specs.declared.Request.the-variants.{Put}
 use Rattle.rules.specs.Refusals.{ownGain}
 use Rattle.gains.specs.Lacking.{Above, LacksPut, held-owner, held-manager, pair, permit}
-use Rattle.gains.specs.Lending.{Heard, Ruled, Climbed}
+use Rattle.gains.specs.Lending.{Heard, Ruled, Placed}
 use Rattle.gains.proofs.Outright.{put-gains-none, put-own-gain, put-hands-none, put-hand-over}
 use Rattle.gains.proofs.PutGives.{none-lacks-put}
 use Rattle.gains.proofs.PutAgain.{put-again-gains, put-again-hands}
@@ -43,14 +43,14 @@ sized c =
 returns : tie.Need-returns
 returns c =
     let i = c .before in
-    let s = i .before .before .before .before .before .before in
+    let s = i .before .before .before .before .before .before .before in
     let n = refuted (read-group (s .args .p) (s .args .g) (i .sort-in .ensures)) (ne-eqb _ _ (c .if1 .taken)) in
-    λ e. given-over _ _ _
+    λ _. given-over _ _ _
     (put-gains-none _ (sized s) _ _ _ (λ w. n (w .1 .1))) (put-hands-none _ (sized s) _ _ _ (λ w. n (w .1))) refl
 
 -- The group is one.
 abbrev start : tie.After-has → tie.Start
-start c = c .before .before .before .before .before .before .before .before
+start c = c .before .before .before .before .before .before .before .before .before
 
 group : (c : tie.After-has) → Group (view (start c .args .p)) (start c .args .g)
 group c =
@@ -60,16 +60,16 @@ group c =
 
 -- What is known of the object, of the group and of the sender.
 abbrev Known : tie.After-has → Type 0
-Known c = let a = start c .args in Climbed (a .p) (a .u) (a .x) (a .g) (a .above) (a .posts)
+Known c = let a = start c .args in Placed (a .p) (a .u) (a .x) (a .g) (a .asked)
 
 -- The object is under the group already.
 returns-2 : tie.Need-returns-2
 returns-2 c =
     let h = c .before in
     let a = start h .args in
-    let here = has-of (a .above .object) (a .g) (h .has .ensures) (omega arith) (omega arith) in
+    let here = has-of (a .asked .first) (a .g) (h .has .ensures) (omega arith) (omega arith) in
     λ e.
-    let under : Under (view (a .p)) (a .x) (a .g) = decides-at here (decides-has (e .object) _) .sound (c .if2 .taken) in
+    let under : Under (view (a .p)) (a .x) (a .g) = decides-at here (decides-has (e .asked .first) _) .sound (c .if2 .taken) in
     given-over _ _ _
     (put-own-gain _ (sized (start h)) _ _ _ (e .used) (group h) false (e .user) (decides-none (put-again-gains under (e .user))))
     (put-hand-over _ (sized (start h)) _ _ _ (e .used) (group h) false (decides-none (put-again-hands under)))
@@ -95,14 +95,14 @@ returns-3 c =
     λ e. given-own _ _ _
     (gains h e
     (⊎-elim
-    (λ w. held-owner (grows-lacks _ (e .holds .owner) (e .object) (e .group) w))
-    (λ w. held-manager (grows-lacks _ (e .holds .manager) (e .object) (e .group) w))
+    (λ w. held-owner (grows-lacks _ (e .asked .posts .owner) (e .asked .first) (e .asked .second) w))
+    (λ w. held-manager (grows-lacks _ (e .asked .posts .manager) (e .asked .first) (e .asked .second) w))
     (m .posts-grow .ensures .sound (c .if3 .taken))))
 
 returns-4 : tie.Need-returns-4
 returns-4 c =
     let h = c .before .before .before .before .before .before .before in
-    λ e. given-own _ _ _ (gains h e (pair (c .before .pairs-come .ensures _ _ _ (heard h e) (e .object) (e .group) .sound (c .if4 .taken))))
+    λ e. given-own _ _ _ (gains h e (pair (c .before .pairs-come .ensures _ _ _ (heard h e) (e .asked .first) (e .asked .second) .sound (c .if4 .taken))))
 
 -- Neither a post grows nor a pair comes, and what he is under has been climbed.
 abbrev first : tie.After-climb → tie.After-has
@@ -122,7 +122,7 @@ returns-5 c =
     λ e. given-own _ _ _
     (gains h e
     (permit
-    (decides-at (f .is-found .ensures) (f .before .put-permission .ensures _ _ _ (ruled h) (e .user) (over o) (e .group))
+    (decides-at (f .is-found .ensures) (f .before .put-permission .ensures _ _ _ (ruled h) (e .user) (over o) (e .asked .second))
     .sound
     (c .if6 .taken))))
 
@@ -139,20 +139,20 @@ none c e =
     let m = k .before .before .before .before in
     let grows = refuted (m .before .posts-grow .ensures) (m .if3 .left) in
     none-lacks-put
-    (λ l. grows (inl (lacks-grows _ (e .holds .owner) (e .object) (e .group) l)))
-    (λ l. grows (inr (lacks-grows _ (e .holds .manager) (e .object) (e .group) l)))
-    (refuted (k .before .pairs-come .ensures _ _ _ (heard h e) (e .object) (e .group)) (k .if4 .left))
+    (λ l. grows (inl (lacks-grows _ (e .asked .posts .owner) (e .asked .first) (e .asked .second) l)))
+    (λ l. grows (inr (lacks-grows _ (e .asked .posts .manager) (e .asked .first) (e .asked .second) l)))
+    (refuted (k .before .pairs-come .ensures _ _ _ (heard h e) (e .asked .first) (e .asked .second)) (k .if4 .left))
     (λ l.
     ⊎-elim
-    (λ w. refuted (decides-at (w .4 .ensures) (w .3 .ensures _ _ _ (ruled h) (e .user) (over o) (e .group))) (w .5 .left) l)
+    (λ w. refuted (decides-at (w .4 .ensures) (w .3 .ensures _ _ _ (ruled h) (e .user) (over o) (e .asked .second))) (w .5 .left) l)
     (λ w.
     refuted
     (c .before .rules-open .ensures)
     (w .left)
-    (lacks-permit-opens _ (e .user) (over o) (e .object) (e .group)
+    (lacks-permit-opens _ (e .user) (over o) (e .asked .first) (e .asked .second)
     (has-of _ _ (c .before .before .before .has2 .ensures) (omega arith) (omega arith))
     (c .before .before .only-if .ensures)
-    (omega (arith, and-comm (a .above .group) (2 ^ 64 - 1 - a .above .object)))
+    (omega (arith, and-comm (a .asked .second) (2 ^ 64 - 1 - a .asked .first)))
     l))
     (c .if5 .came))
 
@@ -161,11 +161,11 @@ returns-6 c =
     let j = c .before .before in
     let h = first (climbs j) in
     let a = start h .args in
-    let same = and-comm (a .posts .owner) (a .above .object) in
+    let same = and-comm (a .asked .posts .owner) (a .asked .first) in
     λ e. given-over _ _ _
     (gains-not h e (none j e))
     (put-hand-over _ (sized (start h)) _ _ _ (e .used) (group h) false
-    (decides-none (λ l. l .not-own (held-had _ (e .holds .owner) (e .object) (λ z. c .if7 .taken (omega (arith, z, same)))))))
+    (decides-none (λ l. l .not-own (held-had _ (e .asked .posts .owner) (e .asked .first) (λ z. c .if7 .taken (omega (arith, z, same)))))))
     refl
 
 returns-7 : tie.Need-returns-7
@@ -175,13 +175,13 @@ returns-7 c =
     let j = t .before .before in
     let h = first (climbs j) in
     let a = start h .args in
-    let same = and-comm (a .posts .owner) (a .above .object) in
+    let same = and-comm (a .asked .posts .owner) (a .asked .first) in
     λ e. given-over _ _ _
     (gains-not h e (none j e))
     (put-hand-over _ (sized (start h)) _ _ _ (e .used) (group h) _
     (over-decides _
-    (held-none _ (e .holds .owner) (e .object) (omega (arith, t .if7 .left, same)))
-    (o .hands-over .ensures _ _ _ refl refl (e .object) (e .group))))
+    (held-none _ (e .asked .posts .owner) (e .asked .first) (omega (arith, t .if7 .left, same)))
+    (o .hands-over .ensures _ _ _ refl refl (e .asked .first) (e .asked .second))))
     (c .handed .ensures)
 
 pub put-gives-spec : {M : Type 1} → statement M

@@ -4,9 +4,7 @@ use mathlib.Core.Bool.{true, false, _&&_}
 use native.Mathlib.Omega.{arith}
 use borrow.Author.Tests.{not-true, not-false}
 use Rattle.reach.specs.Reach.{direct}
-use Rattle.reach.proofs.WordSets.{set-at}
 use Rattle.rules.specs.Authority.{governs}
-use Rattle.gains.specs.Lending.{Climbed}
 use Rattle.gains.proofs.PutMay.{governs-asked, governs-user, governs-used, both-first, put-already, put-unentitled, put-entitled}
 use borrow.Author.Needs.{needs}
 use Rattle.gains.proofs.putting.put_verdict.Statement.{statement}
@@ -53,9 +51,7 @@ returns-3 c =
     record {
       user = governs-user _ (placing .posts) (placing .first) (omega arith) (q .before .meets .ensures) yes;
       used = governs-used _ (placing .posts) (placing .first) (omega arith) (q .before .meets .ensures) yes;
-      object = set-at (omega arith) (placing .first);
-      group = set-at (omega arith) (placing .second);
-      holds = placing .posts;
+      asked = placing;
     })
 
 pub put-verdict-spec : {M : Type 1} → statement M
