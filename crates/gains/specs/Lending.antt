@@ -1,4 +1,4 @@
--- The tables of a policy, lent or handed on one by one.
+-- The tables of a policy, lent or handed on one by one, and what it answers of a PUT.
 use mathlib.Core.Path.{_≡_}
 use mathlib.Core.List.{List}
 use Prim.Native.Nat.{ℕ}

@@ -72,17 +72,7 @@ put-no-orphan p (Grant i v t o) e = refl
 put-no-orphan p (Withdraw i) e = refl
 put-no-orphan p (Use x k) e = refl
 
--- What can give a holding is no PUT, and leaves nothing without an owner.
-pub gain-no-put : (u : ℕ) (q : Request) → canGain u q ≡ true → isPut q ≡ false
-gain-no-put u (Make i s g) e = refl
-gain-no-put u (Put x g) e = absurd (false≢true e)
-gain-no-put u (Take x g) e = refl
-gain-no-put u (Appoint i k h a b) e = refl
-gain-no-put u (Dismiss i) e = refl
-gain-no-put u (Grant i v t o) e = refl
-gain-no-put u (Withdraw i) e = refl
-gain-no-put u (Use x k) e = refl
-
+-- What is asked check 10 by itself leaves nothing without an owner.
 pub gain-no-orphan : (p : Policy) (u : ℕ) (q : Request) → canGain u q ≡ true → orphan p q ≡ false
 unfolding orphan
 gain-no-orphan p u (Make i s g) e = refl

@@ -19,7 +19,7 @@ use Rattle.judge.specs.Naming.{namedBy}
 use Rattle.judge.specs.Answering.{changes, formedBy, allowedBy, harmlessBy, readOf}
 use Rattle.judge.specs.Holding.{firstOf, secondOf}
 use Rattle.judge.specs.Kind.{isUse, isPut, canGain}
-use Rattle.judge.proofs.ByKind.{no-own-gain, no-hand-over, put-no-orphan, gain-no-put, gain-no-orphan, use-not-so, use-no-put}
+use Rattle.judge.proofs.ByKind.{no-own-gain, no-hand-over, put-no-orphan, gain-no-orphan, use-not-so, use-no-put}
 use Rattle.judge.proofs.ByKind.{put-of, done-by-none}
 
 -- A record as it is read.
@@ -35,11 +35,8 @@ goes-on v n e f = rw (e, f)
 
 module _ (p : Policy) (u : ℕ) (q : Request) where
   -- What can give something leaves nothing without an owner.
-  pub gain-harmless : {w : Verdict} → canGain u q ≡ true → (isPut q ≡ false → w ≡ givenBy p u q) → w ≡ harmlessBy p u q
-  gain-harmless e f =
-      let m : isPut q ≡ false = gain-no-put u q e in
-      let n : orphan p q ≡ false = gain-no-orphan p u q e in
-      rw (f m, m, n)
+  pub gain-harmless : {w : Verdict} → canGain u q ≡ true → w ≡ (isPut q ⇒ Done ∥ givenBy p u q) → w ≡ harmlessBy p u q
+  gain-harmless e f = let n : orphan p q ≡ false = gain-no-orphan p u q e in rw (f, n)
 
   -- What cannot give anything is asked the last check alone.
   pub orphan-harmless : {t : Bool} → Sized p → canGain u q ≡ false → orphan p q ≡ t → (t ⇒ Orphan ∥ Done) ≡ harmlessBy p u q

@@ -49,10 +49,11 @@ formedBy p b u q =
     wrongSort p q ⇒ WrongSort ∥
     Done
 
--- Checks 8 and 9, after which a USE is done; and of a PUT checks 10 and 11, which go by the same climbs.
+-- What follows where checks 8 and 9 have passed: a PUT is asked checks 10 and 11, which go by the same climbs; and a USE is done.
 abbrev pub passedBy : Policy → ℕ → Request → Verdict
 passedBy p u q = isPut q ⇒ givenBy p u q ∥ done p u q
 
+-- Checks 8 and 9, and what follows.
 abbrev pub allowedBy : Policy → ℕ → Request → Verdict
 allowedBy p u q = alreadySo p q ⇒ AlreadySo ∥ noAuthority p u q ⇒ NoAuthority ∥ passedBy p u q
 

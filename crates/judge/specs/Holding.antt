@@ -1,4 +1,5 @@
--- Checks 8 and 9 as they are looked at: by what stands at the place that a request names, and what its sender holds over two objects.
+-- Checks 8 and 9 as they are looked at: by what stands at the place that a request names, and what its sender holds over two objects. Those
+-- of a PUT and of a USE are asked elsewhere.
 use mathlib.Core.Bool.{Bool, false, not, _&&_, _||_}
 use Prim.Native.Nat.{ℕ}
 use lib.Dec.{eqb}

@@ -1,4 +1,4 @@
--- Which checks a request of each kind can fail, by its kind alone.
+-- Which checks are left to ask of a request, by its kind alone.
 use mathlib.Core.Bool.{Bool, true, false}
 use Prim.Native.Nat.{ℕ}
 use lib.Dec.{eqb}
@@ -25,7 +25,7 @@ isPut (Grant i u t o) = false
 isPut (Withdraw i) = false
 isPut (Use x k) = false
 
--- It is no PUT, and can give its sender u a holding (check 10). Who appoints another gains nothing.
+-- It can give its sender u a holding (check 10), and is no PUT, which is asked this with check 9. Who appoints another gains nothing.
 abbrev pub canGain : ℕ → Request → Bool
 canGain u (Make i s g) = false
 canGain u (Put x g) = false

@@ -80,7 +80,7 @@ pub fn already_so(named: Named, held: Held, q: Request) -> bool
     }
 }
 
-// Check 9 of every kind but PUT and USE, which the rules decide.
+// Check 9 of every kind but PUT and USE.
 pub fn no_authority(named: Named, held: Held, q: Request) -> bool
     ensures { λ r. ⌜ r ≡ unentitled named held q ⌝ }
 {

@@ -1,6 +1,5 @@
 // Check 10 of what is no PUT: an APPOINT and a GRANT can give their sender something. Nothing but a PUT hands over.
 ghost use mathlib.Core.Path.{_≡_};
-ghost use mathlib.Core.Bool.{false};
 ghost use Rattle.reach.specs.Tests.{_⇒_∥_};
 ghost use Rattle.rules.specs.declared.Verdict.the-variants.{Done, OwnGain};
 ghost use Rattle.gains.specs.Giving.{givenBy};
@@ -23,9 +22,9 @@ fn own(gained: bool) -> Verdict
     Verdict::Done
 }
 
-// Checks 10 and 11 of what is no PUT. A PUT is not asked.
+// Checks 10 and 11 of what is no PUT; a PUT has passed them.
 pub fn giving(p: Policy, u: u8, q: Request) -> Verdict
-    ensures { λ r. ⌜ (isPut q ≡ false → r ≡ givenBy p u q) ⌝ }
+    ensures { λ r. ⌜ r ≡ (isPut q ⇒ Done ∥ givenBy p u q) ⌝ }
 {
     match q {
         Request::Make { .. } => Verdict::Done,

@@ -1,5 +1,5 @@
-// Which checks a request of each kind can fail, by its kind alone: a check that it cannot fail is not asked, and the policy
-// is not handed on to it.
+// Which checks are left to ask of a request, by its kind alone: a check that it cannot fail, or that was asked before, is not asked, and
+// the policy is not handed on to it.
 ghost use mathlib.Core.Path.{_≡_};
 ghost use Rattle.judge.specs.Kind.{isUse, isPut, canGain, canOrphan};
 use rules::Request;
@@ -36,7 +36,7 @@ pub fn is_put(q: Request) -> bool
     }
 }
 
-// Whether it is no PUT, and can give its sender a holding (check 10). Who appoints another gains nothing.
+// Whether it can give its sender a holding (check 10), and is no PUT, which is asked this with check 9. Who appoints another gains nothing.
 pub fn can_gain(u: u8, q: Request) -> bool
     ensures { λ r. ⌜ r ≡ canGain u q ⌝ }
 {

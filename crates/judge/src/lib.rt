@@ -6,7 +6,7 @@ ghost use Rattle.rules.specs.Judging.{judge, OneAnswer};
 ghost use mathlib.Core.Bool.{false};
 ghost use Rattle.judge.specs.Naming.{namedBy};
 ghost use Rattle.judge.specs.Kind.{isUse, isPut};
-ghost use Rattle.judge.specs.Answering.{answered, answerBy, changes, decided, formedBy, allowedBy, harmlessBy, readOf};
+ghost use Rattle.judge.specs.Answering.{answered, changes, decided, formedBy, allowedBy, harmlessBy, readOf};
 
 mod authority;
 mod doing;
@@ -205,12 +205,11 @@ fn harmless(p: Policy, u: u8, q: Request, v: Verdict) -> Verdict
     Verdict::Done
 }
 
-// Decides one record on one policy, for every policy and all bytes. The first clause is demand 2, every verdict as the rules have it; the
-// second is demand 1, one numbered answer, and a refusal that changes nothing. Here, and in the three functions that it calls, the checks
-// stand in their order. No policy is handed back, so that a refusal copies none.
+// Decides one record on one policy, for every policy and all bytes: who sends it, what it asks for, and the verdict that the rules give. Here,
+// and in the three functions that it calls, the checks stand in their order. No policy is handed back, so that a refusal copies none; that the
+// decision, carried out, is the answer of the judge is a law (proofs/Ordered, `decided-answer`).
 pub fn decide(p: Policy, bytes: &[u8]) -> Decision
     ensures { λ r. ⌜ r ≡ decided p (now (bytes .entry)) ⌝ }
-    ensures { λ r. ⌜ OneAnswer p (answerBy p r) ⌝ }
 {
     let asked = read(p, bytes);
     let sender = asked.sender;
@@ -223,8 +222,8 @@ pub fn decide(p: Policy, bytes: &[u8]) -> Decision
     }
 }
 
-// The judge: the decision on one record, with the policy after it, for every policy and all bytes. The clauses are demands 2 and 1 again, of
-// the policy too.
+// The judge: the answer to one record on one policy, for every policy and all bytes. The first clause is demand 2, every answer and every policy
+// after it as the rules have it; the second is demand 1, one numbered answer, and a refusal that changes nothing.
 pub fn judge(p: Policy, bytes: &[u8]) -> Answer
     ensures { λ r. ⌜ r ≡ judge p (now (bytes .entry)) ⌝ }
     ensures { λ r. ⌜ OneAnswer p r ⌝ }

@@ -80,7 +80,7 @@ module _ (first : Policy) (b out₀ : Bytes) where
       policy = ap (run p) (sym none) ∙ s .policy-to-come;
     }
 
-    -- What the next record is judged on, p′, is what the judge handed back.
+    -- What the next record is judged on, p′, is the policy of the answer.
     pub reporting-record : {out′ : Bytes} {p′ : Policy} {r start len next at′ : ℕ} (a : Answer) (code cite : ℕ)
         → stepAt b at ≡ Record start len next
         → a ≡ judge p (take (next - start) (drop start b))

@@ -105,7 +105,7 @@ module _ (b ends codes₀ cited₀ : Bytes) (first : Policy) where
       }
 
   module _ {codes cited : Bytes} {p : Policy} {start i : ℕ} (s : Running codes cited p start i) (low : i < length ends) where
-    -- What the next request is judged on, p′, is what the judge handed back.
+    -- What the next request is judged on, p′, is the policy of the answer.
     pub running-step : {p′ : Policy} {start′ i′ : ℕ} (a : Answer) (code cite : ℕ) → a ≡ judge p (part b start (getD ends i 0))
         → code ≡ codeOf (a .verdict) → cite ≡ citedOf (a .verdict)
         → p′ ≡ a .policy → start′ ≡ getD ends i 0 → i′ ≡ i + 1

@@ -16,7 +16,6 @@ pub use appointments::posts_of;
 pub use appointments::sides_of;
 pub use climbing::climb;
 pub use objects::appointment_at;
-pub use objects::row;
 pub use objects::rule_at;
 pub use objects::sort_in;
 pub use orphans::ownerless;

@@ -23,7 +23,7 @@ pub fn sort_in(sorts: &[u8; 64], x: u8) -> u8
     if i < 64 { counted(sorts[i]) } else { 0 }
 }
 
-// Row g; past the end of the table there is nothing.
+// Row x; past the end of the table there is nothing.
 pub fn row(rows: &[u64], g: u8) -> u64
     ensures { λ r. ⌜ r ≡ getD (now (rows .entry)) g 0 ⌝ }
 {

@@ -144,8 +144,8 @@ impl Policy {
         let first = climb(&sorts, &memberships, x);
         let second = climb(&sorts, &memberships, y);
         let used = 0 < sort_in(&sorts, x);
-        let group = sort_in(&sorts, y) == 1;
-        let direct = used & group & has(row(&memberships, x), y);
+        let into = sort_in(&sorts, y) == 1;
+        let direct = used & into & has(row(&memberships, x), y);
         Placing {
             posts,
             first,

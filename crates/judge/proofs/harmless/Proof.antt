@@ -1,4 +1,4 @@
--- What a kind cannot fail is not asked: of those that can give something the last check, and of the others checks 10 and 11.
+-- What a kind cannot fail, or was asked before, is not asked: of those that can give something the last check, and of the others checks 10 and 11.
 use mathlib.Core.Path.{_≡_, refl, sym, _∙_}
 use mathlib.Core.Bool.{true, false, not}
 use borrow.Author.Tests.{not-true, not-false}
@@ -31,8 +31,9 @@ returns c = stays (c .before .before .args .v) _ (sym (c .before .changes .ensur
 returns-2 : tie.Need-returns-2
 returns-2 c =
     let gain = c .before .before in
-    goes-on (gain .before .before .before .args .v) _ (passed (gain .before))
-    (gain-harmless _ _ _ (sym (gain .can-gain .ensures) ∙ c .before .if2 .taken) (c .giving .ensures))
+    let a = gain .before .before .before .args in
+    goes-on (a .v) _ (passed (gain .before))
+    (gain-harmless (a .p) (a .u) (a .q) (sym (gain .can-gain .ensures) ∙ c .before .if2 .taken) (c .giving .ensures))
 
 returns-3 : tie.Need-returns-3
 returns-3 c =

@@ -25,7 +25,7 @@ returns c =
     let after = c .before in
     let changes = after .before .before in
     let decide = changes .before .decide in
-    both _ _ (decide .result) (decide .ensures .0)
+    both _ _ (decide .result) (decide .ensures)
     (leaves-changed _ (decide .result) (sym (changes .changes .ensures) ∙ after .before .if1 .taken) (after .after .ensures))
     (c .answer .ensures)
 
@@ -33,8 +33,8 @@ returns-2 : tie.Need-returns-2
 returns-2 c =
     let changes = c .before .before in
     let decide = changes .before .decide in
-    both _ _ (decide .result) (decide .ensures .0)
-    (leaves-same _ _ (decide .ensures .0) (sym (changes .changes .ensures) ∙ c .before .if1 .left) refl)
+    both _ _ (decide .result) (decide .ensures)
+    (leaves-same _ _ (decide .ensures) (sym (changes .changes .ensures) ∙ c .before .if1 .left) refl)
     (c .answer2 .ensures)
 
 pub judge-spec : {M : Type 1} → statement M

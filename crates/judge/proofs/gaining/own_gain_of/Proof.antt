@@ -47,12 +47,12 @@ module _ (p : Policy) (b : List ℕ) {d : Decision} (e : d ≡ decided p b) wher
 returns : tie.Need-returns
 returns c =
     let code = c .before in
-    untold _ _ _ _ (decided-verdict _ _ (code .before .decide .ensures .0)) (code .code-of .ensures) (λ e. omega (arith, e, c .if1 .taken))
+    untold _ _ _ _ (decided-verdict _ _ (code .before .decide .ensures)) (code .code-of .ensures) (λ e. omega (arith, e, c .if1 .taken))
 
 returns-2 : tie.Need-returns-2
 returns-2 c =
     let code = c .before .before in
-    let decided = code .before .decide .ensures .0 in
+    let decided = code .before .decide .ensures in
     told _ _ _ _ (decided-verdict _ _ decided) (code .code-of .ensures) _ _ _
     (omega (arith, c .before .if1 .left))
     (omega (arith, decided-sender _ _ decided))

@@ -83,7 +83,7 @@ left c =
     ⊎-elim {C = Left c}
     (λ w. leaves-after _ (decide .result) (omega (arith, coded .code-of .ensures, w .0 .taken)) (w .3 ∙ w .2 .ensures))
     (⊎-elim {C = Left c}
-    (λ w. leaves-cited _ _ (decide .ensures .0) (λ e. omega (arith, e, cited .cited-of .ensures, w .1 .left)) (w .2))
+    (λ w. leaves-cited _ _ (decide .ensures) (λ e. omega (arith, e, cited .cited-of .ensures, w .1 .left)) (w .2))
     (λ w. leaves-refused _ (decide .result) (λ e. omega (arith, e, coded .code-of .ensures, w .0 .left)) (w .1)))
     (c .if1 .came)
 
@@ -96,7 +96,7 @@ loop-again c =
     let decide = coded .before .decide in
     let t = told c in
     reporting-record _ _ _ (t .before .before .before .before .loop .inv) (answerBy _ (decide .result)) _ _ (record-at t)
-    (decided-answer _ _ (decide .ensures .0)) (coded .code-of .ensures) (cited .cited-of .ensures) (left joined)
+    (decided-answer _ _ (decide .ensures)) (coded .code-of .ensures) (cited .cited-of .ensures) (left joined)
     (put .put-line .ensures) (moved c)
 
 same-length : tie.Need-same-length Inv-loop μ-loop

@@ -10,12 +10,12 @@ use Rattle.list.proofs.run.decide_part.Tie as tie
 returns : tie.Need-returns
 returns c =
     let slice = c .before .before in
-    c .decide .ensures .0 ∙ ap (decided _) (sym (part-within _ _ _ (slice .before .if1 .taken) (slice .if2 .taken)))
+    c .decide .ensures ∙ ap (decided _) (sym (part-within _ _ _ (slice .before .if1 .taken) (slice .if2 .taken)))
 
 returns-2 : tie.Need-returns-2
 returns-2 c =
     let none = ⊎-elim (λ w. part-past _ _ _ (w .1 .left)) (λ w. part-falling _ _ _ (w .left)) (c .before .before .if1 .came) in
-    c .decide2 .ensures .0 ∙ ap (decided _) (sym none)
+    c .decide2 .ensures ∙ ap (decided _) (sym none)
 
 pub decide-part-spec : {M : Type 1} → statement M
 decide-part-spec =

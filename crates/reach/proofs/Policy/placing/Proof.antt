@@ -18,7 +18,7 @@ returns c =
       posts = x .before .before .before .posts .ensures;
       first = set-at (omega arith) (climbed _ (x .climb .ensures));
       second = set-at (omega arith) (climbed _ (y .climb2 .ensures));
-      is-direct = direct-by _ _ _ _ _ _ (i .sort-in .ensures) (j .sort-in2 .ensures) (w .row .ensures) (c .has .ensures);
+      is-direct = direct-by _ _ _ _ _ _ (i .sort-in .ensures) (j .sort-in2 .ensures) (omega (arith, w .row .ensures)) (c .has .ensures);
     }
 
 pub placing-spec : {M : Type 1} → statement M
