@@ -1,5 +1,5 @@
 -- What is looked at of the place that a request names, and of what its sender holds over two objects, is what checks 8 and 9 ask.
-use mathlib.Core.Path.{_≡_, refl, sym, ap, _∙_}
+use mathlib.Core.Path.{_≡_, refl, sym, ap}
 use mathlib.Core.Bool.{Bool, true, false, not, _&&_, true≢false}
 use Prim.Native.Nat.{ℕ}
 use lib.Dec.{eqb}
@@ -9,7 +9,7 @@ use Rattle.reach.specs.declared.AccessRule.{AccessRule}
 use Rattle.reach.specs.declared.Held.{Held}
 use Rattle.reach.specs.Tests.{_⇒_∥_}
 use lib.ListN.{getD}
-use Rattle.reach.specs.Tables.{noAppointment, standing, appointment, rule}
+use Rattle.reach.specs.Tables.{noAppointment, standing}
 use Rattle.reach.specs.Privileges.{owns, manages}
 use Rattle.reach.specs.Asking.{heldOf}
 use Rattle.reach.proofs.AsRead.{appointment-is, rule-is}

@@ -18,7 +18,7 @@ use Rattle.rules.proofs.Table.{answers-none, answers-next}
 use Rattle.text.specs.Text.{Bytes, line, lines, tornPlace, Wrote, Printed}
 use Rattle.list.specs.declared.Reported.{Reported}
 use Rattle.list.specs.Runs.{run}
-use Rattle.list.specs.Report.{answersFrom, report, tooLong, output}
+use Rattle.list.specs.Report.{answersFrom, report, output}
 use Rattle.list.specs.Filling.{ReportInto}
 use Rattle.text.proofs.Writing.{wrote-none, wrote-as, printed-of-wrote}
 use Rattle.text.proofs.Printing.{lines-none, wrote-next-line}

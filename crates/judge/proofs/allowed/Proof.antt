@@ -1,6 +1,6 @@
 -- A USE is decided by the rules, and all else by what its sender holds: a PUT with what it gives. A USE is nothing that can be so already.
 use mathlib.Core.Path.{_≡_, sym, _∙_}
-use mathlib.Core.Bool.{true, false}
+use mathlib.Core.Bool.{true}
 use native.Mathlib.Omega.{arith}
 use borrow.Author.Tests.{not-true, not-false}
 use Rattle.judge.specs.Answering.{changes}

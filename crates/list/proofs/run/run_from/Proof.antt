@@ -1,6 +1,6 @@
 -- `run_from` runs the list: its loop keeps `Running`, which starts with nothing done and ends with nothing to come; a buffer that is too
 -- short is refused before the loop.
-use mathlib.Core.Path.{_≡_, sym, _∙_}
+use mathlib.Core.Path.{_≡_, _∙_}
 use mathlib.Core.Logic.{⊎-elim}
 use Prim.Native.Nat.{_-_}
 use native.Mathlib.Omega.{arith}
