@@ -18,7 +18,7 @@ returns : tie.Need-returns
 returns c =
     let start = c .before .before .before .before .before in
     let long : length (now (start .args .text)) ≡ 212992 = search needs in
-    let past : 65536 < length (now (start .args .input)) = search needs in
+    let past : 65536 < length (now (start .args .input)) = omega (arith, start) in
     let told = c .output .ensures in
     (printed-count _ _ long (told .0), (printed-whole _ _ long (told .0), (told .1, full-too-long _ _ past)))
 
@@ -26,7 +26,7 @@ returns-2 : tie.Need-returns-2
 returns-2 c =
     let start = c .before .before .before .before in
     let long : length (now (start .args .text)) ≡ 212992 = search needs in
-    let past : 65536 < length (now (start .args .input)) = search needs in
+    let past : 65536 < length (now (start .args .input)) = omega (arith, start) in
     let told = c .output2 .ensures in
     let all = take-all (start .args .read) (now (start .args .input)) (omega (arith, c .before .before .if1 .left)) in
     (rw all (printed-count _ _ long (told .0)), (rw all (printed-whole _ _ long (told .0)), (rw all (told .1), full-too-long _ _ past)))
