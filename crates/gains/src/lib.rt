@@ -1,5 +1,5 @@
-// Checks 10 and 11: what a request would give its sender, and hand over to others; of a PUT with checks 8 and 9. What one holds is closed downward, so that a PUT is
-// judged by what its two objects are under; only a permission is searched for, target by target.
+// Checks 10 and 11: what a request would give its sender, and hand over to others; of a PUT with checks 8 and 9. What one holds is closed
+// downward, so that a PUT is judged by what its two objects are under; only a permission is searched for, target by target.
 mod granting;
 mod handing;
 mod opening;
