@@ -8,19 +8,27 @@ ghost use Rattle.list.specs.Report.{report};
 ghost use Rattle.export.specs.Picture.{Judged};
 ghost use Rattle.export.specs.Listed.{Listed};
 ghost use Rattle.export.specs.Told.{GainTold};
-ghost use Rattle.export.specs.Above.{AboveTold};
 ghost use Rattle.export.specs.Carded.{CardWritten, CardRead};
 
 mod drawing;
+mod questions;
 mod reading;
 
 use drawing::put_policy;
-use drawing::put_word;
 use gains::Gain;
 use judge::cited_of;
 use judge::code_of;
 use judge::judge;
 use judge::own_gain_of;
+pub use questions::selkaum_above;
+pub use questions::selkaum_administered;
+pub use questions::selkaum_below;
+pub use questions::selkaum_initial;
+pub use questions::selkaum_managed;
+pub use questions::selkaum_owned;
+pub use questions::selkaum_permitted;
+pub use questions::selkaum_permitting;
+pub use questions::selkaum_sort;
 use reading::policy_of;
 use snapshot::read_card;
 use snapshot::status_code;
@@ -106,24 +114,6 @@ pub extern "C" fn selkaum_gain(policy: &[u8], bytes: &[u8], gain: &mut [u8]) -> 
         }
         Gain::Nothing => 0,
     }
-}
-
-// Tells all that x is under, itself too, on the policy of a picture: the set goes into the first eight bytes of out, the
-// lowest first, and the result is 8. An empty object, and a number past the table, is under nothing. Where the picture
-// isn't 960 bytes or out is too short, nothing is written, and the result is 0.
-#[no_mangle]
-pub extern "C" fn selkaum_above(policy: &[u8], x: u8, out: &mut [u8]) -> usize
-    ensures { λ r. ⌜ AboveTold (now (policy .entry)) x (now (out .entry)) (now (out .exit)) r ⌝ }
-{
-    if policy.len() != 960 {
-        return 0;
-    }
-    if out.len() < 8 {
-        return 0;
-    }
-    let above = policy_of(policy).above(x);
-    put_word(out, 0, above);
-    8
 }
 
 // Writes the file of the policy of a picture over the first bytes of the card, and the code into the first byte of the other buffer: 0, 13

@@ -1,7 +1,7 @@
 // A reader over lent bytes gives record after record. The work is done on plain slices; the reader's own functions are
 // thin.
 ghost use mathlib.Core.Path.{_≡_};
-ghost use Rattle.frame.specs.Reading.{torn, stepAt, placeAfter, readerAt, readerAfter};
+ghost use Rattle.frame.specs.Reading.{torn, stepAt, placeAfter, readerAt, readerAfter, linesOf};
 use crate::Reader;
 use crate::Step;
 use crate::length_field;
@@ -86,4 +86,30 @@ pub fn read_after(bytes: &[u8], at: usize) -> usize
     ensures { λ r. ⌜ r ≡ placeAfter at (stepAt (now (bytes .entry)) at) ⌝ }
 {
     Reader::new(bytes, at).after().at
+}
+
+// How many records stand in the bytes, one behind the other, and one more for a torn place.
+pub fn count_lines(bytes: &[u8]) -> usize
+    ensures { λ r. ⌜ r ≡ linesOf (now (bytes .entry)) ⌝ }
+{
+    let mut at: usize = 0;
+    let mut n: usize = 0;
+    loop {
+        match read_at(bytes, at) {
+            Step::Record {
+                start: _,
+                length: _,
+                next,
+            } => {
+                at = next;
+                n = n + 1;
+            }
+            Step::Torn => {
+                return n + 1;
+            }
+            Step::End => {
+                return n;
+            }
+        }
+    }
 }
