@@ -6,6 +6,7 @@ ghost use Rattle.list.specs.Parts.{handed};
 ghost use Rattle.list.specs.Demand.{FoundingDemand3};
 ghost use Rattle.list.specs.Report.{report};
 ghost use Rattle.export.specs.Picture.{Judged};
+ghost use Rattle.export.specs.Counted.{LinesTold};
 ghost use Rattle.export.specs.Listed.{Listed};
 ghost use Rattle.export.specs.Told.{GainTold};
 ghost use Rattle.export.specs.Carded.{CardWritten, CardRead};
@@ -15,6 +16,7 @@ mod questions;
 mod reading;
 
 use drawing::put_policy;
+use frame::count_lines;
 use gains::Gain;
 use judge::cited_of;
 use judge::code_of;
@@ -42,6 +44,15 @@ pub extern "C" fn selkaum_report(input: &[u8], out: &mut [u8]) -> usize
     ensures { λ r. ⌜ FoundingDemand3 (recordsFrom (now (input .entry)) 0) ⌝ }
 {
     list::report(input, out)
+}
+
+// How many lines the whole report of an input has: one for each record, and one for a torn place. With 28 bytes for each, a buffer has
+// room for the whole report; a report that was cut off has fewer line feeds.
+#[no_mangle]
+pub extern "C" fn selkaum_lines(input: &[u8]) -> usize
+    ensures { λ r. ⌜ LinesTold (now (input .entry)) r ⌝ }
+{
+    count_lines(input)
 }
 
 // Judges one record on the policy of a picture: the picture after it, the code and the cited rule, 962 bytes, go into the answer, and the

@@ -13,6 +13,7 @@ pub mod Holding
 pub mod Authority
 pub mod Retracing
 pub mod Room
+pub mod Lining
 pub mod Handed
 pub mod Running
 pub mod Reporting

@@ -28,12 +28,12 @@ pub torn-numbers : tornPlace ≡ numbersOf Torn
 torn-numbers = refl
 
 -- The answers of a list are bounded, and as many as its records.
-answers-bounded : (p : Policy) (bs : List Bytes) → Bounded (answers p bs)
+pub answers-bounded : (p : Policy) (bs : List Bytes) → Bounded (answers p bs)
 answers-bounded p [] = rw (answers-none p) tt
 answers-bounded p (b ∷ bs) =
     rw (answers-next p b bs) (code-bounded (judge p b .verdict), cited-bounded p b, answers-bounded (judge p b .policy) bs)
 
-answers-length : (p : Policy) (bs : List Bytes) → length (answers p bs) ≡ length bs
+pub answers-length : (p : Policy) (bs : List Bytes) → length (answers p bs) ≡ length bs
 answers-length p [] = rw (answers-none p)
 answers-length p (b ∷ bs) = rw (answers-next p b bs, answers-length (judge p b .policy) bs)
 

@@ -4,3 +4,4 @@ pub mod Decimals
 pub mod Numerals
 pub mod Printing
 pub mod Lengths
+pub mod Feeds

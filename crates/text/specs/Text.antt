@@ -1,7 +1,9 @@
 -- The text that the program prints, and what it means that a buffer holds it.
 use mathlib.Core.Path.{_≡_}
+use mathlib.Core.Bool.{cond}
 use mathlib.Core.List.{List, [], _∷_, _++_}
 use Prim.Native.Nat.{ℕ, zero, suc, _+_, _-_, _*_, _/_, _%_, _≤_, min}
+use lib.Dec.{eqb}
 use lib.ListN.{length, getD, take, drop}
 
 -- A byte string.
@@ -53,6 +55,11 @@ lines i ((code, cited) ∷ rest) = line i code cited ++ lines (suc i) rest
 -- number of records before it.
 abbrev pub tornPlace : ℕ × ℕ
 tornPlace = (1, 255)
+
+-- The line feeds in a text.
+unfoldable pub feeds : Bytes → ℕ
+feeds [] = 0
+feeds (byte ∷ rest) = cond (eqb byte 10) 1 0 + feeds rest
 
 -- The first n bytes of the buffer are the text, or as much of it as there is room for.
 pub record Holds (buffer : Bytes) (n : ℕ) (text : Bytes) : Type 0 where
