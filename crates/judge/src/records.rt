@@ -22,7 +22,7 @@ pub struct Named {
     pub filled: bool,
 }
 
-// The length of a record of each kind.
+// The length of a record of each kind. A number that is no kind has none: no record has 0 bytes.
 pub fn length_of(kind: usize) -> usize
     ensures { λ r. ⌜ r ≡ lengthOf kind ⌝ }
 {
@@ -34,11 +34,12 @@ pub fn length_of(kind: usize) -> usize
         5 => 6,
         6 => 9,
         7 => 6,
-        _ => 7,
+        8 => 7,
+        _ => 0,
     }
 }
 
-// The request of a record, its sender aside.
+// The request of a record, its sender aside. A number that is no kind is refused before; what stands for it is off the sheet.
 pub fn request_of(b: &[u8]) -> Request
     ensures { λ r. ⌜ r ≡ request (now (b .entry)) ⌝ }
 {
@@ -77,9 +78,13 @@ pub fn request_of(b: &[u8]) -> Request
             operations: b8,
         },
         7 => Request::Withdraw { place: b5 },
-        _ => Request::Use {
+        8 => Request::Use {
             target: b5,
             operation: b6,
+        },
+        _ => Request::Use {
+            target: 255,
+            operation: 255,
         },
     }
 }

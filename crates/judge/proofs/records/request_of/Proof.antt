@@ -109,6 +109,20 @@ returns-8 c =
     let b = c .before .before .before .before in
     simp (
       ← b .before .before .kind-field .ensures,
+      c .match .keys8,
+      ← b .before .byte .ensures,
+      ← b .byte2 .ensures,
+      ← c .before .before .before .byte3 .ensures,
+      ← c .before .before .byte4 .ensures,
+      ← c .before .byte5 .ensures,
+    )
+
+returns-9 : tie.Need-returns-9
+unfolding request
+returns-9 c =
+    simp (
+      ← c .before .before .before .before .before .before .kind-field .ensures,
+      ne-eqb _ _ (c .match .rest .0 .0 .0 .0 .0 .0 .0 .1),
       ne-eqb _ _ (c .match .rest .0 .0 .0 .0 .0 .0 .1),
       ne-eqb _ _ (c .match .rest .0 .0 .0 .0 .0 .1),
       ne-eqb _ _ (c .match .rest .0 .0 .0 .0 .1),
@@ -116,11 +130,6 @@ returns-8 c =
       ne-eqb _ _ (c .match .rest .0 .0 .1),
       ne-eqb _ _ (c .match .rest .0 .1),
       ne-eqb _ _ (c .match .rest .1),
-      ← b .before .byte .ensures,
-      ← b .byte2 .ensures,
-      ← c .before .before .before .byte3 .ensures,
-      ← c .before .before .byte4 .ensures,
-      ← c .before .byte5 .ensures,
     )
 
 pub request-of-spec : {M : Type 1} → statement M
@@ -140,4 +149,5 @@ request-of-spec =
     returns-5
     returns-6
     returns-7
-    returns-8)
+    returns-8
+    returns-9)
