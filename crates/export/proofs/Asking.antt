@@ -35,14 +35,21 @@ module _ (picture answer buffer : Bytes) where
       in
       record { written = rw fits (d ∙ sets-front buffer answer h); count = rw fits e }
 
--- The set that the policy of the picture answers with, told.
-pub set-told : (asked : Policy → ℕ → Type 0) (picture : Bytes) (p : Policy) (w : ℕ) (buffer buffer′ : Bytes) (n : ℕ)
-    → p ≡ policyOf picture → SetOf w (asked p) → AnswerTold picture (bytesOf 8 w) buffer buffer′ n
-    → SetTold picture asked buffer buffer′ n
-set-told asked picture p w buffer buffer′ n e s t =
-    record { set = w; exactly = subst (λ (q : Policy). SetOf w (asked q)) e s; told = t }
+-- What is asked goes by one number or two. The set with which the policy of the picture answers is told; what it was asked for are the
+-- numbers that the caller gave.
+pub set-told : (asked : ℕ → ℕ → Policy → ℕ → Type 0) (x y x′ y′ : ℕ) (picture : Bytes) (p : Policy) (w : ℕ) (buffer buffer′ : Bytes)
+    (n : ℕ) → x′ ≡ x → y′ ≡ y → p ≡ policyOf picture → SetOf w (asked x′ y′ p) → AnswerTold picture (bytesOf 8 w) buffer buffer′ n
+    → SetTold picture (asked x y) buffer buffer′ n
+set-told asked x y x′ y′ picture p w buffer buffer′ n ex ey e s t =
+    record {
+      set = w;
+      exactly =
+          subst (λ (q : Policy). SetOf w (asked x y q)) e
+          (subst (λ (b : ℕ). SetOf w (asked x b p)) ey (subst (λ (a : ℕ). SetOf w (asked a y′ p)) ex s));
+      told = t;
+    }
 
--- The byte with which the policy of the picture answers, told.
+-- The byte with which it answers, told.
 pub byte-told : (picture buffer buffer′ : Bytes) (byte answer n : ℕ) → byte ≡ answer → AnswerTold picture (byte ∷ []) buffer buffer′ n
     → AnswerTold picture (answer ∷ []) buffer buffer′ n
 byte-told picture buffer buffer′ byte answer n e t = subst (λ (b : ℕ). AnswerTold picture (b ∷ []) buffer buffer′ n) e t

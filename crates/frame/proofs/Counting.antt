@@ -21,13 +21,15 @@ module _ (b : List ℕ) where
   lines-few = omega (arith, records-few b 0 zero-le)
 
   module _ {at n : ℕ} (s : Counting at n) where
-    pub counting-record : (start len next : ℕ) → stepAt b at ≡ Record start len next → Counting next (n + 1)
-    counting-record start len next e =
-        record { to-come = omega (arith, rw (records-of-record b at start len next e, torn-of-record b at start len next e) at (s .to-come)) }
+    pub counting-record : (start len next more : ℕ) → stepAt b at ≡ Record start len next → more ≡ n + 1 → Counting next more
+    counting-record start len next more e one =
+        let records = records-of-record b at start len next e in
+        let torn = torn-of-record b at start len next e in
+        record { to-come = omega (arith, one, rw (records, torn) at (s .to-come)) }
 
     -- A record was counted: so there is room for one more.
     pub counting-more : (start len next : ℕ) → stepAt b at ≡ Record start len next → n + 1 ≤ length b
-    counting-more start len next e = omega (arith, lines-few, counting-record start len next e .to-come)
+    counting-more start len next e = omega (arith, lines-few, counting-record start len next (n + 1) e refl .to-come)
 
     pub counting-torn : stepAt b at ≡ Torn → n + 1 ≡ linesOf b
     counting-torn e = omega (arith, rw (records-of-torn b at e, torn-of-torn b at e) at (s .to-come))

@@ -1,4 +1,7 @@
 -- `selkaum_administered` tells the set with which the policy of the picture answers: what u administers with a.
+use native.Mathlib.Omega.{arith}
+use Rattle.reach.specs.Tables.{view}
+use Rattle.reach.specs.Privileges.{Administers}
 use Rattle.export.proofs.Asking.{set-told}
 use borrow.Author.Needs.{needs}
 use Rattle.export.proofs.questions.selkaum_administered.Statement.{statement}
@@ -7,7 +10,11 @@ use Rattle.export.proofs.questions.selkaum_administered.Tie as tie
 returns : tie.Need-returns
 returns c =
     let asked = c .before .before .before .before in
-    set-told _ _ _ _ _ _ _ (asked .before .policy-of .ensures) (asked .administered .ensures) (c .before .before .tell-set .ensures)
+    set-told (λ u a p b. Administers (view p) u a b) _ _ _ _ _ _ _ _ _ _
+    (omega arith) (omega arith)
+    (asked .before .policy-of .ensures)
+    (asked .administered .ensures)
+    (c .before .before .tell-set .ensures)
 
 pub selkaum-administered-spec : {M : Type 1} → statement M
 selkaum-administered-spec =

@@ -1,4 +1,8 @@
 -- `selkaum_below` tells the set with which the policy of the picture answers: all that is under g.
+use mathlib.Core.Path.{refl}
+use native.Mathlib.Omega.{arith}
+use Rattle.reach.specs.Tables.{view}
+use Rattle.reach.specs.Reach.{Under}
 use Rattle.export.proofs.Asking.{set-told}
 use borrow.Author.Needs.{needs}
 use Rattle.export.proofs.questions.selkaum_below.Statement.{statement}
@@ -7,7 +11,11 @@ use Rattle.export.proofs.questions.selkaum_below.Tie as tie
 returns : tie.Need-returns
 returns c =
     let asked = c .before .before .before .before in
-    set-told _ _ _ _ _ _ _ (asked .before .policy-of .ensures) (asked .under-set .ensures) (c .before .before .tell-set .ensures)
+    set-told (λ g y p x. Under (view p) x g) _ 0 _ 0 _ _ _ _ _ _
+    (omega arith) refl
+    (asked .before .policy-of .ensures)
+    (asked .under-set .ensures)
+    (c .before .before .tell-set .ensures)
 
 pub selkaum-below-spec : {M : Type 1} → statement M
 selkaum-below-spec =

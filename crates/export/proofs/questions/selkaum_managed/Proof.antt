@@ -1,4 +1,8 @@
 -- `selkaum_managed` tells the set with which the policy of the picture answers: all that u manages.
+use mathlib.Core.Path.{refl}
+use native.Mathlib.Omega.{arith}
+use Rattle.reach.specs.Tables.{view}
+use Rattle.reach.specs.Privileges.{Manages}
 use Rattle.export.proofs.Asking.{set-told}
 use borrow.Author.Needs.{needs}
 use Rattle.export.proofs.questions.selkaum_managed.Statement.{statement}
@@ -7,7 +11,11 @@ use Rattle.export.proofs.questions.selkaum_managed.Tie as tie
 returns : tie.Need-returns
 returns c =
     let asked = c .before .before .before .before in
-    set-told _ _ _ _ _ _ _ (asked .before .policy-of .ensures) (asked .managed .ensures) (c .before .before .tell-set .ensures)
+    set-told (λ u y p x. Manages (view p) u x) _ 0 _ 0 _ _ _ _ _ _
+    (omega arith) refl
+    (asked .before .policy-of .ensures)
+    (asked .managed .ensures)
+    (c .before .before .tell-set .ensures)
 
 pub selkaum-managed-spec : {M : Type 1} → statement M
 selkaum-managed-spec =

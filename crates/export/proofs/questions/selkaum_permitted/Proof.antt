@@ -1,4 +1,7 @@
 -- `selkaum_permitted` tells the set with which the policy of the picture answers: the targets on which u is permitted k.
+use native.Mathlib.Omega.{arith}
+use Rattle.reach.specs.Tables.{view}
+use Rattle.reach.specs.Privileges.{Permitted}
 use Rattle.export.proofs.Asking.{set-told}
 use borrow.Author.Needs.{needs}
 use Rattle.export.proofs.questions.selkaum_permitted.Statement.{statement}
@@ -7,7 +10,11 @@ use Rattle.export.proofs.questions.selkaum_permitted.Tie as tie
 returns : tie.Need-returns
 returns c =
     let asked = c .before .before .before .before in
-    set-told _ _ _ _ _ _ _ (asked .before .policy-of .ensures) (asked .permitted .ensures) (c .before .before .tell-set .ensures)
+    set-told (λ u k p x. Permitted (view p) u k x) _ _ _ _ _ _ _ _ _ _
+    (omega arith) (omega arith)
+    (asked .before .policy-of .ensures)
+    (asked .permitted .ensures)
+    (c .before .before .tell-set .ensures)
 
 pub selkaum-permitted-spec : {M : Type 1} → statement M
 selkaum-permitted-spec =

@@ -1,5 +1,6 @@
 -- `selkaum_permitting` tells the place with which the policy of the picture answers, as a byte.
-use mathlib.Core.Path.{ap, _∙_}
+use mathlib.Core.Path.{ap}
+use native.Mathlib.Omega.{arith}
 use Rattle.export.specs.Asked.{placeByte}
 use Rattle.export.proofs.Asking.{byte-told}
 use borrow.Author.Needs.{needs}
@@ -11,7 +12,11 @@ returns c =
     let told = c .before .before .before .before in
     let asked = told .before in
     byte-told _ _ _ _ _ _
-    (told .place-byte .ensures ∙ ap placeByte (rw (asked .before .policy-of .ensures) at (asked .permitting .ensures)))
+    (omega (
+      arith,
+      told .place-byte .ensures,
+      ap placeByte (rw (asked .before .policy-of .ensures) at (asked .permitting .ensures)),
+    ))
     (c .before .before .tell-byte .ensures)
 
 pub selkaum-permitting-spec : {M : Type 1} → statement M

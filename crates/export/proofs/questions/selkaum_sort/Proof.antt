@@ -1,4 +1,5 @@
 -- `selkaum_sort` tells the sort with which the policy of the picture answers.
+use native.Mathlib.Omega.{arith}
 use Rattle.export.proofs.Asking.{byte-told}
 use borrow.Author.Needs.{needs}
 use Rattle.export.proofs.questions.selkaum_sort.Statement.{statement}
@@ -7,7 +8,9 @@ use Rattle.export.proofs.questions.selkaum_sort.Tie as tie
 returns : tie.Need-returns
 returns c =
     let asked = c .before .before .before .before in
-    byte-told _ _ _ _ _ _ (rw (asked .before .policy-of .ensures) at (asked .sort .ensures)) (c .before .before .tell-byte .ensures)
+    byte-told _ _ _ _ _ _
+    (omega (arith, rw (asked .before .policy-of .ensures) at (asked .sort .ensures)))
+    (c .before .before .tell-byte .ensures)
 
 pub selkaum-sort-spec : {M : Type 1} → statement M
 selkaum-sort-spec =

@@ -44,7 +44,7 @@ loop-less : tie.Need-loop-less Inv-loop μ-loop
 loop-less c = omega (arith, step-record _ _ _ _ _ (record-at c))
 
 loop-again : tie.Need-loop-again Inv-loop μ-loop
-loop-again c = counting-record _ (c .before .before .before .before .loop .inv) _ _ _ (record-at c)
+loop-again c = counting-record _ (c .before .before .before .before .loop .inv) _ _ _ _ (record-at c) (omega arith)
 
 -- The same where a torn place has been found.
 abbrev torn-in : tie.After-enum-told Inv-loop μ-loop → List ℕ
@@ -59,7 +59,7 @@ add-result c =
     record { fits = omega (arith, at-most, lines-few (torn-in c), counting-torn _ (c .before .before .before .loop .inv) (torn-at c)) }
 
 returns : tie.Need-returns Inv-loop μ-loop
-returns c = counting-torn _ (c .before .before .before .loop .inv) (torn-at c)
+returns c = omega (arith, counting-torn _ (c .before .before .before .loop .inv) (torn-at c))
 
 returns-2 : tie.Need-returns-2 Inv-loop μ-loop
 returns-2 c =
