@@ -2,7 +2,7 @@
 # For tools/prove: runs rt in a process group of its own, follows what it prints, and puts a failure in one sentence.
 # That a proof failed is said of nothing else: of a crate whose check ended with status 1 and `logic=not-proved`.
 
-group=''        # the process group of rt, while it runs
+group=''        # the process group of rt, while it runs; `waited` is another process that this command waits for
 last_lines=()   # the last lines that rt printed, but for those that are put in other words here
 refuted=''      # the first crate whose proof failed
 troubled=''     # the first crate that failed otherwise, and its status
@@ -60,7 +60,6 @@ end_rt() {
     local status
     wait "$group"
     status=$?
-    exec 3<&-
     group=''
     return "$status"
 }
@@ -68,7 +67,11 @@ end_rt() {
 # Runs rt with its own output and status.
 pass_on() { # WORDS..
     start_rt "$@"
-    cat <&3 9<&- || fail 2 "the output of rt cannot be written"
+    cat <&3 9<&- &
+    exec 3<&-
+    waited=$!
+    wait "$waited" || fail 2 "the output of rt cannot be written"
+    waited=''
     end_rt
 }
 
@@ -113,6 +116,7 @@ follow() { # COMMAND CRATE
             break
         fi
     done
+    exec 3<&-
     [ "$unproved" = no ] || refuted="${refuted:-${!#}}"
     end_rt
 }
