@@ -166,6 +166,7 @@ extern "C" {
 #define SELKAUM_RULE_U 1
 #define SELKAUM_RULE_T 2
 #define SELKAUM_RULE_OPERATIONS 3
+#define SELKAUM_IN_USE 1 /* the mark of a rule that is in use */
 
 /* Writes the picture of the founding over the first 960 bytes of `policy`: object 0 is a group, object 1 a member
  * directly in it, the founder, and warrant 0 makes him its owner. It has 1 at byte 0, 2 at byte 1, 1 at byte 72, 1 at

@@ -146,6 +146,5 @@ class Refusals(StubBoard):
             "large", preexec_fn=lambda: resource.setrlimit(resource.RLIMIT_FSIZE, (4096, 4096)))
         self.assertEqual((status, output), (2, b""))
         self.assertIn("board: the input could not be copied to a temporary file: ", said)
-        status, output, said = self.run_board("large", env=dict(self.environment, TMPDIR="/no/such/folder"))
-        self.assertEqual((status, output), (2, b""))
-        self.assertTrue(said.endswith("board: no temporary folder can be made\n"), said)
+        self.assertEqual(self.refusal("large", env=dict(self.environment, TMPDIR="/no/such/folder")),
+                         "no temporary folder can be made")
