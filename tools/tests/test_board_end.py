@@ -64,12 +64,12 @@ class Ending(StubBoard):
     def test_while_it_proves(self):
         """All that it started is gone when it has ended."""
         self.script(WITH_GRANDCHILD)
-        for number, status in ((signal.SIGTERM, 143), (signal.SIGINT, 130), (signal.SIGHUP, 129)):
+        for number in (signal.SIGTERM, signal.SIGINT, signal.SIGQUIT, signal.SIGHUP):
             with self.subTest(number):
                 process = self.start(self.board, cwd=self.folder)
                 grandchild = self.grandchild()
                 process.send_signal(number)
-                self.assertEqual(process.wait(SECONDS), status)
+                self.assertEqual(process.wait(SECONDS), 128 + number)
                 self.assert_nothing_left(grandchild)
                 (self.stub / "grandchild").unlink()
 

@@ -116,12 +116,12 @@ class Ending(StubKit):
     def test_signals(self):
         """All that it started is gone when it has ended."""
         self.script(WITH_GRANDCHILD)
-        for number, status in ((signal.SIGTERM, 143), (signal.SIGINT, 130), (signal.SIGHUP, 129)):
+        for number in (signal.SIGTERM, signal.SIGINT, signal.SIGQUIT, signal.SIGHUP):
             with self.subTest(number):
                 process = self.start(self.repository / "tools/prove", "program")
                 grandchild = self.grandchild()
                 process.send_signal(number)
-                self.assertEqual(process.wait(SECONDS), status)
+                self.assertEqual(process.wait(SECONDS), 128 + number)
                 self.assert_nothing_left(grandchild)
                 (self.stub / "grandchild").unlink()
 
