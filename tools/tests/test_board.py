@@ -123,21 +123,18 @@ class Refusals(StubBoard):
 
     def test_lost_input(self):
         """An input that is closed, or whose reading fails."""
-        closed = "board: standard input is closed, so nothing can be read from it\n"
-        for line, said in (
+        closed = "standard input is closed, so nothing can be read from it"
+        for line, sentence in (
             ('"$board" - <&-', closed),
             ('"$board" /dev/stdin <&-', closed),
-            ('"$board" - < .', "board: standard input cannot be read: Is a directory\n"),
-            ('"$board" - 0> /dev/null', "board: standard input cannot be read: Bad file descriptor\n"),
-            ('"$board" "/proc/$$/mem"; exit', None),
+            ('"$board" - < .', "standard input cannot be read: Is a directory"),
+            ('"$board" - 0> /dev/null', "standard input cannot be read: Bad file descriptor"),
+            ('"$board" "/proc/$PPID/mem"', "/proc/[0-9]+/mem (cannot be read: Input/output error|may not be read)"),
         ):
             with self.subTest(line):
-                status, output, came = self.shell(line)
+                status, output, said = self.shell(line)
                 self.assertEqual((status, output), (2, b""))
-                if said:
-                    self.assertEqual(came, said)
-                else:
-                    self.assertRegex(came, r"\Aboard: /proc/[0-9]+/mem cannot be read: Input/output error\n\Z")
+                self.assertRegex(said, f"\\Aboard: {sentence}\n\\Z")
 
     def test_no_room_for_a_copy(self):
         """Where there is no room for the copy of the input, it is not judged in part."""
