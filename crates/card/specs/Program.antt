@@ -40,7 +40,7 @@ cardOf input = fileOf (view (run initial (recordsFrom input 0)))
 abbrev pub savedLine : ℕ → ℕ → Bytes
 savedLine code long = decimal code ++ (32 ∷ []) ++ decimal long ++ (10 ∷ [])
 
--- The input is saved: the buffer for the card before it and after it, and that for the line after it.
+-- The input is saved. The buffers are that for the card, before and after, and that for the line, after.
 pub record Saves (input card card′ line′ : Bytes) (r : Saved) : Type 0 where
   -- Whether there is a card to write: there is none for an input that is too long.
   pub fits : r .fits ≡ not (isLong input)
@@ -67,7 +67,7 @@ outputFrom p input = isLong input ⇒ tooLong ∥ lines 0 (answersFrom p input 0
 abbrev pub codeLine : ℕ → Bytes
 codeLine code = decimal code ++ (10 ∷ [])
 
--- The card is loaded, and the input judged: the buffers for the first line and for the text after it.
+-- The card is loaded, and the input judged. The buffers are those for the first line and for the text, after.
 pub record Loads (card input head′ text′ : Bytes) (r : Told) : Type 0 where
   -- What the reader answers for the card, where the board has the founding's policy.
   pub loaded : Loaded

@@ -1,5 +1,5 @@
 -- APPOINT gives its sender something exactly if it appoints himself and he lacks what it covers: A by that kind, or for an administrator
--- the pair (A, B). For the new appointment gives what is under its groups, and what one holds is closed downward.
+-- the pair (A, B). The new appointment gives what is under its groups, and what one holds is closed downward.
 use mathlib.Core.Path.{_≡_, sym, _∙_, subst}
 use mathlib.Core.Bool.{Bool}
 use mathlib.Core.Logic.{_⊎_, inl, inr, ⊎-elim}

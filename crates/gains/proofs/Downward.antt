@@ -1,5 +1,5 @@
 -- What one holds is closed downward: whoever owns, manages or administers something has all that is under it; and PUT adds to what is
--- under g just what is under x. For chains join.
+-- under g just what is under x. Both because chains can be joined.
 use mathlib.Core.Logic.{_⊎_, ⊎-elim}
 use Prim.Native.Nat.{ℕ}
 use Rattle.reach.specs.Tables.{View}

@@ -1,5 +1,5 @@
 -- The first permission that is new between two tables of words is the first that the user gains, if the tables are what he is permitted
--- before the request, and after it of what was in use before. For then what is new between them is what he comes to use.
+-- before the request, and after it of what was in use before. Then what is new between them is what he comes to use.
 use mathlib.Core.List.{List}
 use Prim.Native.Nat.{ℕ, _<_}
 use lib.ListN.{getD}

@@ -1,4 +1,4 @@
--- GRANT gives its sender something exactly if he is among the users of the rule and lacks an operation of it on gear of it. For reach and
+-- GRANT gives its sender something exactly if he is among the users of the rule and lacks an operation of it on gear of it. Reach and
 -- appointments stay, and a permission after it is by the new rule or was there.
 use mathlib.Core.Path.{_≡_, refl, sym, ap, _∙_, subst}
 use mathlib.Core.Bool.{true}

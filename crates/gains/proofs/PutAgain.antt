@@ -1,4 +1,4 @@
--- Where x is under g already, a PUT of x into g gives nothing: what g is under x is under too.
+-- Where x is under g already, a PUT of x into g gives nothing: x is under all that g is under.
 use mathlib.Core.Logic.{inl, inr, ⊎-elim}
 use Prim.Native.Nat.{ℕ}
 use Rattle.reach.specs.Tables.{View}

@@ -1,5 +1,5 @@
 -- By PUT somebody comes to own something exactly if he owns g and not x, to manage likewise, and x is what he comes to hold; and PUT hands
--- something over exactly if it hands over x. For PUT adds to who has g just what is under x, and what one holds is closed downward.
+-- something over exactly if it hands over x. PUT adds to who has g just what is under x, and what one holds is closed downward.
 use mathlib.Core.Logic.{inl, inr, ⊎-elim}
 use Prim.Native.Nat.{ℕ}
 use Rattle.reach.specs.Tables.{View}

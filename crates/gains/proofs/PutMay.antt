@@ -1,5 +1,5 @@
--- Who may PUT: what he is appointed over meets what the object is under, and what the group is under. Such a one is a user, and the object
--- in use.
+-- Who may PUT: what he is appointed over meets what the object is under, and what the group is under. Whoever may is a user, and
+-- the object is in use.
 use mathlib.Core.Path.{_≡_, refl, sym, subst}
 use mathlib.Core.Bool.{Bool, true, false, not, _&&_, _||_}
 use mathlib.Core.Logic.{_⊎_, inl, inr, ⊎-elim}

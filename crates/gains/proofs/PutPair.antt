@@ -1,5 +1,6 @@
 -- By PUT he comes to administer a pair exactly if some appointment of his has a side above g and not above x and he lacks the pair of x
--- and its other side. Where both sides are new he lacks (x, x), so that one who has (x, B) by another appointment lacks its A with x.
+-- and its other side. Where both sides, A and B, are above g and not above x, he lacks (x, x); so if he has (x, B) by another appointment,
+-- he lacks (A, x).
 use mathlib.Core.Path.{_≡_, refl, sym, subst}
 use mathlib.Core.Logic.{_⊎_, inl, inr, ⊎-elim}
 use mathlib.Core.Bool.{Bool, true, false}

@@ -1,5 +1,5 @@
--- A pair comes by a PUT exactly if an administrator's appointment of his has one side that is opened, above g and not above x, and another
--- that is in use and not under the side of one that he holds with x.
+-- A pair comes by a PUT exactly if one of his administrator's appointments has an A that is opened, above g and not above x, and a B that is
+-- in use and not under the B of any appointment of his whose A is above x; or the same with the sides exchanged.
 use mathlib.Core.Path.{_≡_, refl, sym, ap, subst, _∙_}
 use mathlib.Core.Bool.{not}
 use mathlib.Core.List.{List}

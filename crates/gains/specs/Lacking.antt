@@ -30,20 +30,21 @@ pub record LacksHeld (v : View) (kind u x g : ℕ) : Type 0 where
 abbrev pub Grows : ℕ → ℕ → ℕ → Type 0
 Grows held object group = Meet held group × (Meet held object → ⊥)
 
--- The one side is above g and not above x, and he lacks the pair of x and the other side, which is in use. So with A above, and with B.
+-- Of the sides a and b: a is above g and not above x, b is in use, and he does not administer the pair of x and b.
 pub record LacksA (v : View) (u x g a b : ℕ) : Type 0 where
   pub above : Under v g a
   pub not-above : Under v x a → ⊥
   pub other : InUse v b
   pub lacks : Administers v u x b → ⊥
 
+-- The same with the sides exchanged.
 pub record LacksB (v : View) (u x g a b : ℕ) : Type 0 where
   pub above : Under v g b
   pub not-above : Under v x b → ⊥
   pub other : InUse v a
   pub lacks : Administers v u a x → ⊥
 
--- The appointment at place i makes him an administrator, and one of its sides is so.
+-- The appointment at place i makes him an administrator, and its sides are so, the one way or the other.
 pub record LacksPairBy (v : View) (u x g i : ℕ) : Type 0 where
   pub is-kind : v .appointment i .kind ≡ administrator
   pub is-holder : v .appointment i .holder ≡ u
@@ -83,7 +84,7 @@ pub record LacksRuled (v : View) (u : ℕ) (r : AccessRule) : Type 0 where
   pub covers : Under v gear (r .targets)
   pub lacks : Permitted v u operation gear → ⊥
 
--- What is under a after PUT of x into g, said of the view before.
+-- y is under a after PUT of x into g, said of the view before: it was so, or y is under x and g under a.
 abbrev pub UnderPut : View → ℕ → ℕ → ℕ → ℕ → Type 0
 UnderPut v x g y a = Under v y a ⊎ (Under v y x × Under v g a)
 

@@ -15,7 +15,7 @@ use crate::searching::first_fresh;
 use reach::AccessRule;
 use reach::has;
 
-// Whether this rule is in use, and its U is among the users that are more, or among the users and its T among what is opened.
+// Whether this rule is in use, and its U is in `more`, or in `users` with its T in `opened`.
 fn rule_opens(rule: AccessRule, users: u64, more: u64, opened: u64) -> bool
     ensures { λ r. ⌜ Decides r (Opens rule users more opened) ⌝ }
 {

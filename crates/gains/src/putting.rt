@@ -33,7 +33,7 @@ use reach::sides_of;
 use reach::sort_in;
 use rules::Verdict;
 
-// Whether b is in use, and u does not administer the pair of what `object` is above and b.
+// Whether b is in use, and u does not administer the pair of x and b, where `object` is all that x is under.
 pub fn lacks_first<'a>(
     sorts: &'a [u8; 64],
     memberships: &'a [u64; 64],
@@ -52,8 +52,8 @@ pub fn lacks_first<'a>(
     !covers_pair(appointments, u, object, over)
 }
 
-// Whether u comes to administer a pair by one of his appointments: one of its sides is opened, and the other is in use and not under a side
-// that he holds with the object.
+// Whether u comes to administer a pair by one of his appointments: its A is opened, and its B is in use and not under the B of any that has
+// its A above the object; or the same with the sides exchanged.
 fn pairs_come<'a>(
     sorts: &'a [u8; 64],
     memberships: &'a [u64; 64],

@@ -59,7 +59,7 @@ fn with_put(before: u64, x: u8, over: u64) -> u64
     }
 }
 
-// Whether what is got meets what is above afterwards, and what was had met nothing of what was above before.
+// Whether `got` meets `after`, and `had` did not meet `before`.
 pub fn fresh(had: u64, got: u64, before: u64, after: u64) -> bool
     ensures { λ r. ⌜ Decides r (Meet got after × (Meet had before → ⊥)) ⌝ }
 {

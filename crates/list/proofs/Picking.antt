@@ -1,5 +1,5 @@
--- Which number below a bound can pass a test: none but those that pass another, if no number passes the first and fails the second. That is
--- one equation, which computes.
+-- If no number below a bound passes the one test and fails the other, whatever passes the one passes the other too. That no number does is one
+-- equation, which computes.
 use mathlib.Core.Path.{_≡_, refl, sym, _∙_}
 use mathlib.Core.Bool.{Bool, true, false, not, _&&_, true≢false}
 use Prim.Native.Nat.{ℕ, _<_}

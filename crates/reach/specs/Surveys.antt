@@ -21,7 +21,7 @@ pub record Lent (p : Policy) (memberships : List ℕ) (m : Masks) : Type 0 where
   pub rows : p .memberships ≡ memberships
   pub masks : MasksOf p m
 
--- So it is with every policy whose memberships and masks these are.
+-- P holds of every policy that has these memberships and these masks.
 abbrev pub Whose : List ℕ → Masks → (Policy → Type 0) → Type 0
 Whose memberships m P = (p : Policy) → Lent p memberships m → P p
 

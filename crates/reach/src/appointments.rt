@@ -16,7 +16,7 @@ use crate::sets::just;
 use crate::sets::mark;
 use crate::sets::only_if;
 
-// The places whose appointment u holds. No place is branched on: which of them are his the processor can't guess.
+// The places whose appointment u holds. There is no branch on a place, since the processor can't guess which of them are his.
 fn held_by(appointments: [Appointment; 32], u: u8) -> u32
     ensures { λ r. ⌜ SetOf r (λ i. (i < 32) × (getD appointments i noAppointment .holder ≡ u)) ⌝ }
 {

@@ -1,5 +1,5 @@
 -- A policy of which no test of the clauses finds a fault is sound: so soundness of a written policy is found by computation.
--- A test that fails fails at every place of its table, and past the tables nothing is stored, stands or is in use.
+-- A test that finds no fault finds none at any place of its table, and past the tables nothing is stored, stands or is in use.
 use mathlib.Core.Path.{_≡_, refl, sym, ap, _∙_}
 use mathlib.Core.Bool.{Bool, true, false, not, _&&_, true≢false, false≢true}
 use Prim.Native.Nat.{ℕ, _<_}
