@@ -122,7 +122,7 @@ extern "C" {
 #define SELKAUM_HAND_OVER 11
 #define SELKAUM_ORPHAN 12
 #define SELKAUM_DAMAGED 13
-#define SELKAUM_NO_ROOM 14
+#define SELKAUM_SHORT_CARD 14
 
 /* No rule: what is cited by every answer but an accepted USE, and the place of a rule where none permits. */
 #define SELKAUM_NONE 255
