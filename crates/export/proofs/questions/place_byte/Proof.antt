@@ -7,7 +7,7 @@ use Rattle.export.proofs.questions.place_byte.Statement.{statement}
 use Rattle.export.proofs.questions.place_byte.Tie as tie
 
 returns : tie.Need-returns
-returns c = omega (arith, ap placeByte (c .before .i .given .1))
+returns c = omega (arith, ap placeByte (c .before .place .given .1))
 
 returns-2 : tie.Need-returns-2
 returns-2 c = omega (arith, ap placeByte (c .enum-told .given .1))
