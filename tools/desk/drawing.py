@@ -7,7 +7,7 @@ from desk import numbers
 from desk.answers import operations_in_words
 from desk.club import Club
 from desk.faults import Fault
-from desk.files import replace
+from desk.files import write_file
 
 HEAD = ("digraph club {", '  rankdir="BT"; nodesep="0.35"; ranksep="0.6";', '  node [fontname="Helvetica", fontsize="12"];',
         '  edge [fontname="Helvetica", fontsize="10"];')
@@ -77,4 +77,4 @@ def write_svg(club: Club, name: str) -> None:
         raise Fault(f"graphviz can't be run: {error}") from None
     if done.returncode != 0:
         raise Fault(f"graphviz ended with the status {done.returncode}: {done.stderr.decode('utf-8', 'replace').strip()[:200]}")
-    replace(name, done.stdout)
+    write_file(name, done.stdout)

@@ -61,28 +61,28 @@ def read_bytes(name: str, most: int, what: str) -> bytes:
     return data
 
 
-def fault_at(source: str, data: bytes, at: int, what: str) -> Fault:
+def fault_at(source: str, first: int, data: bytes, at: int, what: str) -> Fault:
     """A fault at a byte of a text; the bytes before it are UTF-8."""
     start = data.rfind(b"\n", 0, at) + 1
     column = len(data[start:at].decode("utf-8", "replace")) + 1
-    return Fault(f"{what}; expected text in UTF-8, its lines ending in a line feed", column).at(source, data.count(b"\n", 0, at) + 1)
+    return Fault(f"{what}; expected text in UTF-8, its lines ending in a line feed", column).at(source, first + data.count(b"\n", 0, at))
 
 
-def decoded(source: str, data: bytes) -> str:
-    """Bytes as text; a fault says where the first byte is that has no place in it."""
+def decoded(source: str, data: bytes, first: int = 1) -> str:
+    """Bytes as text, of which the first line has this number; a fault says where the first byte is that has no place in it."""
     if data.startswith(UTF16_BOMS):
-        raise fault_at(source, data, 0, f"this is UTF-16, by its first bytes {data[0]:02X} {data[1]:02X}")
+        raise fault_at(source, first, data, 0, f"this is UTF-16, by its first bytes {data[0]:02X} {data[1]:02X}")
     data = data[len(UTF8_BOM):] if data.startswith(UTF8_BOM) else data
     try:
         text = data.decode("utf-8")
     except UnicodeDecodeError as error:
         what = f"the byte {data[error.start]:02X} is not UTF-8 (is this Latin-1, or records, which `desk words` reads?)"
-        raise fault_at(source, data, error.start, what) from None
+        raise fault_at(source, first, data, error.start, what) from None
     if b"\0" in data:
-        raise fault_at(source, data, data.index(0), "a NUL byte stands here (are these records, which `desk words` reads?)")
+        raise fault_at(source, first, data, data.index(0), "a NUL byte stands here (are these records, which `desk words` reads?)")
     lone = LONE_RETURN.search(data)
     if lone:
-        raise fault_at(source, data, lone.start(), "a carriage return stands here alone")
+        raise fault_at(source, first, data, lone.start(), "a carriage return stands here alone")
     return text
 
 
@@ -124,6 +124,15 @@ def replace(name: str, data: bytes) -> None:
     except (OSError, ValueError) as error:
         if beside:
             Path(beside).unlink(missing_ok=True)
+        raise Fault(f"{name}: it can't be written: {getattr(error, 'strerror', None) or error}") from None
+
+
+def write_file(name: str, data: bytes) -> None:
+    """Writes a file anew."""
+    try:
+        with open(name, "wb") as file:
+            file.write(data)
+    except (OSError, ValueError) as error:
         raise Fault(f"{name}: it can't be written: {getattr(error, 'strerror', None) or error}") from None
 
 

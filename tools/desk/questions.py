@@ -152,14 +152,14 @@ def show_lines(club: Club) -> List[str]:
 
 # What would be answered.
 
-def what_if(club: Club, source: str, text: str) -> List[Judged]:
+def what_if(club: Club, source: str, line: int, text: str) -> List[Judged]:
     """The answers to a request, judged on the club and not kept."""
     try:
-        item = line_in(1, text)
+        item = line_in(line, text)
+        if item is None:
+            raise Fault("no request stands here; expected one")
     except Fault as fault:
-        raise fault.at(source, 1) from None
-    if item is None:
-        raise Fault("no request; expected one behind `what-if`")
+        raise fault.at(source, line) from None
     return list(run(club.copy(), source, [item]))
 
 

@@ -25,28 +25,28 @@ class Judged(NamedTuple):
 class Reading:
     """A stream of records over a club. What of it makes no whole record yet is kept; a torn place ends the reading."""
 
-    def __init__(self, club: Club, source: str):
+    def __init__(self, club: Club, source: str, count: int = 0):
         self.club = club
         self.source = source
         self.pending = b""
         self.began: Optional[Line] = None  # the line where the pending bytes begin
-        self.count = 0
-        self.size = 0  # of the whole stream, in bytes
+        self.count = count  # the index of the next record
         self.is_torn = False
-        self.unread: List[Line] = []  # lines behind a torn place
 
     def take(self, item: Line) -> Iterator[Judged]:
         """The records that are whole with this line."""
         if self.is_torn:
-            self.unread.append(item)
             return
-        try:
-            record = record_of(self.club, item.request)
-        except Fault as fault:
-            raise fault.at(self.source, item.line) from None
-        self.size += len(record) * item.times
+        record = self.bytes_of(item)
         for _ in range(item.times):
             yield from self.feed(item, record)
+
+    def bytes_of(self, item: Line) -> bytes:
+        """The bytes of a line's request on the club as it is now."""
+        try:
+            return record_of(self.club, item.request)
+        except Fault as fault:
+            raise fault.at(self.source, item.line) from None
 
     def feed(self, item: Line, record: bytes) -> Iterator[Judged]:
         """The records that are whole with these bytes of a line."""

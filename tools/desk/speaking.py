@@ -145,3 +145,16 @@ def in_words(club: Club, data: bytes) -> Iterator[str]:
             for _ in reading.take(item):
                 pass
         at += length
+
+
+def in_bytes(source: str, items: List[grammar.Line], begin: Callable[[], Club]) -> bytes:
+    """The records of all lines, one behind the other. A club is begun only where a line in words needs one."""
+    if all(isinstance(item.request, grammar.Exact) for item in items):
+        return b"".join(item.request.data * item.times for item in items)
+    parts = []
+    reading = Reading(begin(), source)
+    for item in items:
+        parts.append(reading.bytes_of(item) * item.times)
+        for _ in reading.take(item):
+            pass
+    return b"".join(parts)

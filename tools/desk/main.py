@@ -1,0 +1,159 @@
+"""The command line of the desk."""
+
+import argparse
+from typing import Callable, Dict, List, Optional
+
+from desk import commands, files, grammar, prompt, speaking
+from desk.club import Club, founded
+from desk.library import Library, opened
+from desk.output import ALL_DONE, Output, guarded
+from desk.running import run
+
+DESCRIPTION = "A club's requests in words, answered in words by the proved board. Without a command: a prompt."
+STATUSES = "Exit status: 0 all done, 1 something refused (or an answer not as expected), 2 usage, or an input that can't be read."
+REQUEST = "request"  # what the request of `what-if` is called in messages
+
+
+def start(library: Library, options: argparse.Namespace) -> Club:
+    """The club at the founding, or on the card that is given."""
+    return files.read_card(library, options.card) if options.card else founded(library)
+
+
+def club_after(options: argparse.Namespace, name: Optional[str]) -> Club:
+    """The club after a file of requests in words; its answers are not told."""
+    items = lines_of(name) if name is not None else []
+    club = start(opened(), options)
+    for _ in run(club, files.source_name(name or ""), items):
+        pass
+    return club
+
+
+def lines_of(name: str) -> List[grammar.Line]:
+    """The lines of a file in words."""
+    return grammar.lines_in(files.source_name(name), files.read_text(name))
+
+
+def run_file(options: argparse.Namespace, out: Output) -> int:
+    """desk run FILE."""
+    items = lines_of(options.file)
+    return commands.run(start(opened(), options), files.source_name(options.file), items, out)
+
+
+def ask_may(options: argparse.Namespace, out: Output) -> int:
+    """desk may FILE."""
+    return commands.may(club_after(options, options.file), out)
+
+
+def ask_show(options: argparse.Namespace, out: Output) -> int:
+    """desk show FILE."""
+    return commands.show(club_after(options, options.file), out)
+
+
+def ask_draw(options: argparse.Namespace, out: Output) -> int:
+    """desk draw FILE."""
+    return commands.draw(club_after(options, options.file), options.svg, out)
+
+
+def ask_who(options: argparse.Namespace, out: Output) -> int:
+    """desk who FILE NAME."""
+    return commands.who(club_after(options, options.file), options.name, out)
+
+
+def ask_what_if(options: argparse.Namespace, out: Output) -> int:
+    """desk what-if FILE REQUEST; with a card, what is not the request is no file either."""
+    name, words = (None, options.words) if options.card else (options.words[0], options.words[1:])
+    return commands.what_if(club_after(options, name), REQUEST, 1, " ".join(words), out)
+
+
+def to_bytes(options: argparse.Namespace, out: Output) -> int:
+    """desk bytes FILE."""
+    items = lines_of(options.file)
+    data = speaking.in_bytes(files.source_name(options.file), items, lambda: start(opened(), options))
+    if out.is_json:
+        out.tell([], {"length": len(data), "bytes": data.hex()})
+    else:
+        out.raw(data)
+    commands.warn_long(len(data))
+    return ALL_DONE
+
+
+def to_words(options: argparse.Namespace, out: Output) -> int:
+    """desk words RECORDS."""
+    data = files.read_records(options.file)
+    lines = speaking.in_words(start(opened(), options), data)
+    if out.is_json:
+        out.tell([], {"lines": list(lines)})
+    else:
+        out.tell(lines, None)
+    return ALL_DONE
+
+
+def save_card(options: argparse.Namespace, out: Output) -> int:
+    """desk save FILE CARD."""
+    return commands.save(club_after(options, options.file), options.target, out)
+
+
+def open_prompt(options: argparse.Namespace, out: Output) -> int:
+    """desk alone."""
+    return prompt.run(start(opened(), options), out, options.history)
+
+
+WORK: Dict[Optional[str], Callable[[argparse.Namespace, Output], int]] = {
+    None: open_prompt, "run": run_file, "may": ask_may, "who": ask_who, "what-if": ask_what_if, "show": ask_show,
+    "draw": ask_draw, "bytes": to_bytes, "words": to_words, "save": save_card,
+}
+
+
+def add_common(parser: argparse.ArgumentParser, default) -> None:
+    """The options that every command has."""
+    parser.add_argument("--json", action="store_true", default=default, help="answers as JSON, with numbers and words")
+    parser.add_argument("--card", metavar="CARD", default=default, help="the club on this card, and not the founding, to begin with")
+
+
+def parser_of() -> argparse.ArgumentParser:
+    """The parser of the whole command line."""
+    parser = argparse.ArgumentParser("desk", description=DESCRIPTION, epilog=STATUSES, allow_abbrev=False)
+    add_common(parser, None)
+    parser.add_argument("--history", metavar="FILE", help="keep the lines that are typed at the prompt in this file")
+    parts = parser.add_subparsers(dest="command", metavar="COMMAND")
+
+    def part(name: str, about: str) -> argparse.ArgumentParser:
+        """A command."""
+        found = parts.add_parser(name, help=about, description=about, epilog=STATUSES, allow_abbrev=False)
+        add_common(found, argparse.SUPPRESS)
+        return found
+
+    words = "a file of requests in words (.club or .case), or - for standard input"
+    part("run", "judge each request of a file").add_argument("file", metavar="FILE", help=words)
+    for name, about in (("may", "who may do what on which gear"), ("show", "the sheet in words"), ("draw", "the club as DOT, or as SVG")):
+        part(name, about).add_argument("file", metavar="FILE", nargs="?", help=f"{words}; not needed with --card")
+    parts.choices["draw"].add_argument("--svg", metavar="OUT", help="write an SVG to this file (needs graphviz)")
+    who = part("who", "what one object is, and what a member holds and may use")
+    who.add_argument("file", metavar="FILE", nargs="?", help=f"{words}; not needed with --card")
+    who.add_argument("name", metavar="NAME", help="a name or a number")
+    what_if = part("what-if", "what would be answered to a request; nothing is kept")
+    what_if.add_argument("words", metavar="FILE REQUEST", nargs="+", help="a file in words, then a request; with --card the request alone")
+    part("bytes", "from words to records").add_argument("file", metavar="FILE", help=words)
+    part("words", "from records to words").add_argument("file", metavar="RECORDS", help="a file of records, or - for standard input")
+    save = part("save", "write the club's card")
+    save.add_argument("file", metavar="FILE", help=words)
+    save.add_argument("target", metavar="CARD", help="the card to write")
+    return parser
+
+
+def work(arguments: Optional[List[str]]) -> int:
+    """Reads the command line and does what it says."""
+    parser = parser_of()
+    options = parser.parse_args(arguments)
+    if options.command in ("may", "show", "draw", "who") and options.file is None and not options.card:
+        parser.error(f"{options.command}: give a FILE or --card CARD")
+    if options.command == "what-if" and len(options.words) < (1 if options.card else 2):
+        parser.error("what-if: give a FILE (or --card CARD) and a REQUEST")
+    if options.command and options.history:
+        parser.error("--history is for the prompt, which has no command")
+    return WORK[options.command](options, Output(bool(options.json)))
+
+
+def main(arguments: Optional[List[str]] = None) -> int:
+    """The exit status of the desk."""
+    return guarded(lambda: work(arguments))
