@@ -1,7 +1,5 @@
 """Answers in words, with their numbers."""
 
-from typing import Optional
-
 from desk import numbers
 from desk.club import Club, Rule, Warrant
 from desk.numbers import Answer
@@ -80,8 +78,8 @@ def answer_in_words(before: Club, after: Club, record: bytes, answer: Answer) ->
     return refusal_in_words(answer.code)
 
 
-def gain_in_words(club: Club, record: bytes) -> Optional[str]:
-    """What a record that is refused for own gain would give its sender, as far as the library tells; None for any other."""
+def gain_in_words(club: Club, record: bytes) -> str:
+    """What a record that is refused for own gain would give its sender, as far as the library tells."""
     gained = club.library.gain(club.picture, record)
     if gained is None:
         return "it would give its sender something to own, to manage or to administer"

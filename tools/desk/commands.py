@@ -7,6 +7,7 @@ from desk.club import Club
 from desk.grammar import Line
 from desk.numbers import Answer, TOO_LONG
 from desk.output import ALL_DONE, Output, SOME_REFUSED, complain
+from desk.questions import judged_data
 from desk.running import Judged, Reading
 
 
@@ -45,8 +46,7 @@ def record_line(judged: Judged) -> str:
 
 def record_data(judged: Judged) -> dict:
     """The same as data."""
-    data = {"record": judged.index, "line": judged.item.line, "request": judged.item.text, "bytes": judged.record.hex(),
-            "code": judged.answer.code, "word": numbers.word_of(judged.answer.code), "cited": judged.answer.cited, "text": judged.words}
+    data = {"record": judged.index, "line": judged.item.line, **judged_data(judged), "bytes": judged.record.hex()}
     if judged.is_expected is not None:
         data["expected"] = list(judged.item.answer)
     return data
@@ -84,7 +84,8 @@ def unmet(source: str, items: List[Line], answered: set, size: int) -> int:
 def warn_long(size: int) -> None:
     """Says that the board would not take as many bytes at once."""
     if size > numbers.BOARD_BYTES:
-        complain(f"desk: the records have {size} bytes, and the board takes {numbers.BOARD_BYTES} at once: it would answer `{TOO_LONG}`")
+        complain(f"desk: the records have {size} bytes, and the board takes {numbers.BOARD_BYTES} at once: "
+                 f"it would answer `{TOO_LONG}`")
 
 
 def run(club: Club, source: str, items: List[Line], out: Output) -> int:
@@ -95,15 +96,19 @@ def run(club: Club, source: str, items: List[Line], out: Output) -> int:
     tally = tell_records(reading, reading.end(), out, tally, answered)
     size = sum(grammar.size_of(item) for item in items)
     tally = tally._replace(differing=tally.differing + unmet(source, items, answered, size))
-    summary = f"{counted(tally.done + tally.refused, 'record')}: {tally.done} done, {tally.refused} refused"
-    data = {"records": tally.done + tally.refused, "done": tally.done, "refused": tally.refused, "differing": tally.differing,
-            "torn": reading.began.line if reading.is_torn else None}
-    torn = [f"the reading ends in line {reading.began.line}: nothing behind a torn place is judged"] if reading.is_torn else []
-    out.tell([*torn, summary], data)
+    tell_end(tally, reading.began.line if reading.is_torn else None, out)
     warn_long(size)
     if tally.differing:
         complain(f"desk: {counted(tally.differing, 'answer')} not as expected")
     return tally.status()
+
+
+def tell_end(tally: Tally, torn: Optional[int], out: Output) -> None:
+    """Tells the count of all records, and the line where a torn place ended the reading."""
+    count = tally.done + tally.refused
+    lines = [f"the reading ends in line {torn}: nothing behind a torn place is judged"] if torn else []
+    lines.append(f"{counted(count, 'record')}: {tally.done} done, {tally.refused} refused")
+    out.tell(lines, {"records": count, **tally._asdict(), "torn": torn})
 
 
 def one_line(club: Club, source: str, item: Line, out: Output, count: int) -> Tally:
@@ -155,5 +160,6 @@ def draw(club: Club, svg: Optional[str], out: Output) -> int:
 def save(club: Club, card: str, out: Output) -> int:
     """Writes the club's card."""
     length = files.write_card(club, card)
-    out.tell([f"done: the card {card} has {counted(length, 'byte')}"], {"code": numbers.DONE, "word": "done", "length": length, "card": card})
+    out.tell([f"done: the card {card} has {counted(length, 'byte')}"],
+             {"code": numbers.DONE, "word": numbers.word_of(numbers.DONE), "length": length, "card": card})
     return ALL_DONE

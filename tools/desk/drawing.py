@@ -9,8 +9,8 @@ from desk.club import Club
 from desk.faults import Fault
 from desk.files import write_file
 
-HEAD = ("digraph club {", '  rankdir="BT"; nodesep="0.35"; ranksep="0.6";', '  node [fontname="Helvetica", fontsize="12"];',
-        '  edge [fontname="Helvetica", fontsize="10"];')
+HEAD = ("digraph club {", '  rankdir="BT"; nodesep="0.35"; ranksep="0.6";',
+        '  node [fontname="Helvetica", fontsize="12"];', '  edge [fontname="Helvetica", fontsize="10"];')
 SHAPES = {numbers.GROUP: 'shape="box"', numbers.MEMBER: 'shape="ellipse"', numbers.GEAR: 'shape="hexagon"'}
 CIRCLE = 'color="red", penwidth="2"'
 POST = 'style="dashed", color="gray40", fontcolor="gray40", constraint="false"'
@@ -30,11 +30,12 @@ def node(number: int) -> str:
 
 def objects_drawn(club: Club) -> List[str]:
     """Groups as boxes, members as ellipses, gear as hexagons."""
-    return [f"  {node(which)} [label={quoted(club.called(which))}, {SHAPES[club.sort(which)]}];" for which in club.objects()]
+    return [f"  {node(which)} [label={quoted(club.called(which))}, {SHAPES[club.sort(which)]}];"
+            for which in club.objects()]
 
 
 def memberships_drawn(club: Club) -> List[str]:
-    """An edge from each object to each group that it is directly in, coloured where it is part of a circle of groups."""
+    """An edge from each object to each group that it is directly in, coloured where it is part of a circle."""
     lines = []
     for which in club.objects():
         for group in club.direct_groups(which):
@@ -51,7 +52,8 @@ def posts_drawn(club: Club) -> List[str]:
         ends = [(warrant.a, word)]
         if warrant.kind == numbers.ADMINISTRATOR:
             ends = [(warrant.a, f"{word}: users"), (warrant.b, f"{word}: gear")]
-        lines += [f"  {node(warrant.holder)} -> {node(group)} [label={quoted(label)}, {POST}];" for group, label in ends]
+        holder = node(warrant.holder)
+        lines += [f"  {holder} -> {node(group)} [label={quoted(label)}, {POST}];" for group, label in ends]
     return lines
 
 
@@ -70,11 +72,13 @@ def dot(club: Club) -> str:
 def write_svg(club: Club, name: str) -> None:
     """Writes the club as SVG."""
     try:
-        done = subprocess.run(["dot", "-Tsvg"], input=dot(club).encode("utf-8"), capture_output=True, timeout=SECONDS, check=False)
+        done = subprocess.run(["dot", "-Tsvg"], input=dot(club).encode("utf-8"), capture_output=True, timeout=SECONDS,
+                              check=False)
     except FileNotFoundError:
         raise Fault("graphviz is not installed, so there is no SVG; `desk draw` without --svg writes DOT") from None
     except (OSError, subprocess.TimeoutExpired) as error:
         raise Fault(f"graphviz can't be run: {error}") from None
     if done.returncode != 0:
-        raise Fault(f"graphviz ended with the status {done.returncode}: {done.stderr.decode('utf-8', 'replace').strip()[:200]}")
+        said = done.stderr.decode("utf-8", "replace").strip()[:200]
+        raise Fault(f"graphviz ended with the status {done.returncode}: {said}")
     write_file(name, done.stdout)

@@ -65,11 +65,12 @@ def fault_at(source: str, first: int, data: bytes, at: int, what: str) -> Fault:
     """A fault at a byte of a text; the bytes before it are UTF-8."""
     start = data.rfind(b"\n", 0, at) + 1
     column = len(data[start:at].decode("utf-8", "replace")) + 1
-    return Fault(f"{what}; expected text in UTF-8, its lines ending in a line feed", column).at(source, first + data.count(b"\n", 0, at))
+    fault = Fault(f"{what}; expected text in UTF-8, its lines ending in a line feed", column)
+    return fault.at(source, first + data.count(b"\n", 0, at))
 
 
 def decoded(source: str, data: bytes, first: int = 1) -> str:
-    """Bytes as text, of which the first line has this number; a fault says where the first byte is that has no place in it."""
+    """Bytes as text, its first line with this number; a fault says where a byte stands that has no place in it."""
     if data.startswith(UTF16_BOMS):
         raise fault_at(source, first, data, 0, f"this is UTF-16, by its first bytes {data[0]:02X} {data[1]:02X}")
     data = data[len(UTF8_BOM):] if data.startswith(UTF8_BOM) else data
@@ -79,7 +80,8 @@ def decoded(source: str, data: bytes, first: int = 1) -> str:
         what = f"the byte {data[error.start]:02X} is not UTF-8 (is this Latin-1, or records, which `desk words` reads?)"
         raise fault_at(source, first, data, error.start, what) from None
     if b"\0" in data:
-        raise fault_at(source, first, data, data.index(0), "a NUL byte stands here (are these records, which `desk words` reads?)")
+        what = "a NUL byte stands here (are these records, which `desk words` reads?)"
+        raise fault_at(source, first, data, data.index(0), what)
     lone = LONE_RETURN.search(data)
     if lone:
         raise fault_at(source, first, data, lone.start(), "a carriage return stands here alone")
@@ -88,7 +90,8 @@ def decoded(source: str, data: bytes, first: int = 1) -> str:
 
 def read_text(name: str) -> str:
     """The text of a file in words."""
-    return decoded(source_name(name), read_bytes(name, MOST_TEXT, f"a file of requests in words, at most {MOST_TEXT >> 20} MiB"))
+    data = read_bytes(name, MOST_TEXT, f"a file of requests in words, at most {MOST_TEXT >> 20} MiB")
+    return decoded(source_name(name), data)
 
 
 def read_records(name: str) -> bytes:

@@ -5,8 +5,8 @@
     bytes 08 00 63 00*5                         bytes as they are, hexadecimal; `00*5` is a byte five times
     repeat 9 USE 1 1 0                          any of these nine times
 
-each with an expected answer behind it, if one is wanted: `-> CODE CITED`, `-> done`, `-> done by 0` (a USE), a refusal's word,
-or `-> too long`.
+each with an expected answer behind it, if one is wanted: `-> CODE CITED`, `-> done`, `-> done by 0` (a USE), a
+refusal's word, or `-> too long`.
 """
 
 import re
@@ -48,7 +48,8 @@ def raw_bytes(cursor: Cursor) -> bytes:
             return b"".join(parts)
         match = BYTES_WORD.fullmatch(word.text)
         if not match:
-            raise Fault(f"{quoted(word.text)} is no byte; expected two hexadecimal digits, with *N if it comes N times", word.column)
+            raise Fault(f"{quoted(word.text)} is no byte; expected two hexadecimal digits, with *N if it comes N times",
+                        word.column)
         times = number(Word(match[2] or "1", word.column), 1, MOST_BYTES, "the count behind *")
         total += times
         if total > MOST_BYTES:
@@ -64,8 +65,8 @@ def numbered(kind: str, cursor: Cursor) -> bytes:
             break
         word = cursor.take(name)
         if not values and not is_number(word):
-            raise Fault(f"{name} must be a number from 0 to 255, not {quoted(word.text)}; in words the sender comes first: {form(kind)}",
-                        word.column)
+            raise Fault(f"{name} must be a number from 0 to 255, not {quoted(word.text)}; "
+                        f"in words the sender comes first: {form(kind)}", word.column)
         values.append(number(word, 0, numbers.LARGEST_BYTE, name))
     more = len(cursor.words) - cursor.position
     if more or len(values) < len(names):
@@ -107,7 +108,8 @@ def kind_in(request: Union[Exact, Spoken]) -> Optional[str]:
 
 def size_of(item: Line) -> int:
     """How many bytes the records of a line have together."""
-    one = len(item.request.data) if isinstance(item.request, Exact) else numbers.HEAD + len(numbers.FIELDS[item.request.kind])
+    request = item.request
+    one = len(request.data) if isinstance(request, Exact) else numbers.HEAD + len(numbers.FIELDS[request.kind])
     return one * item.times
 
 
@@ -134,8 +136,10 @@ def answer_in(words: Sequence[Word], end: int, request: Union[Exact, Spoken]) ->
             return Answer(code, NOTHING_CITED)
     if len(words) != 2:
         at = words[0].column if words else end
-        raise Fault(f"{quoted(text)} is no answer; an answer is a code and a cited rule, `done`, a refusal's word, or `{TOO_LONG}`", at)
-    return Answer(number(words[0], 0, numbers.LAST_REQUEST_REFUSAL, "code"), number(words[1], 0, NOTHING_CITED, "cited rule"))
+        raise Fault(f"{quoted(text)} is no answer; an answer is a code and a cited rule, `done`, a refusal's word, "
+                    f"or `{TOO_LONG}`", at)
+    code = number(words[0], 0, numbers.LAST_REQUEST_REFUSAL, "code")
+    return Answer(code, number(words[1], 0, NOTHING_CITED, "cited rule"))
 
 
 def line_in(line: int, content: str) -> Optional[Line]:
@@ -163,7 +167,8 @@ def lines_in(source: str, text: str) -> List[Line]:
             item = line_in(line, content[:-1] if content.endswith("\r") else content)
             total += size_of(item) if item else 0
             if total > MOST_BYTES:
-                raise Fault(f"the records up to here have more than {MOST_BYTES} bytes; expected fewer in one file", item.column)
+                raise Fault(f"the records up to here have more than {MOST_BYTES} bytes; expected fewer in one file",
+                            item.column)
         except Fault as fault:
             raise fault.at(source, line) from None
         if item:

@@ -1,8 +1,9 @@
-"""The proved library, called by ctypes. Each method is one entry point of include/selkaum.h, and nothing is decided here."""
+"""The proved library, called by ctypes. A method calls an entry point of include/selkaum.h, and decides nothing."""
 
 import ctypes
 import os
 import subprocess
+import time
 from pathlib import Path
 from typing import Optional, Tuple
 
@@ -40,21 +41,32 @@ SIGNATURES = {
 }
 
 
+def is_fresh() -> bool:
+    """True if nothing that the library is made from is younger than it, so that nobody needs to be asked."""
+    if not SHARED.exists():
+        return False
+    made = SHARED.stat().st_mtime
+    folders = [folder for folder, _, _ in os.walk(ROOT / "crates")]
+    files = [entry for folder in folders for entry in os.scandir(folder)]
+    return all(entry.stat().st_mtime <= made for entry in [*files, ROOT / "crates.txt"])
+
+
 def build() -> None:
-    """Has the library proved and linked where it is not up to date."""
-    if not os.access(PROVE, os.X_OK):
-        if not SHARED.exists():
-            raise Fault(f"the library is not built, and {PROVE} is not there to build it")
+    """Has the library proved and linked where it is not fresh; it is fresh once that was found to be up to date."""
+    if is_fresh():
         return
+    began = time.time()
     try:
         done = subprocess.run([str(PROVE), "library"], stdin=subprocess.DEVNULL, stdout=subprocess.DEVNULL,
                               env={**os.environ, "SELKAUM_CALLER": "desk"}, check=False)
     except OSError as error:
-        raise Fault(f"the library can't be built: {PROVE}: {error.strerror}") from None
+        raise Fault(f"the library has to be built, and tools/prove can't be run: {error.strerror}") from None
     if done.returncode == 1:
         raise Fault("the library is not proved, so it is not used")
-    if done.returncode != 0:
-        raise Fault(f"the library could not be built (tools/prove ended with the status {done.returncode})")
+    if done.returncode != 0 or not SHARED.exists():
+        raise Fault(f"the library could not be built: tools/prove ended with the status {done.returncode}")
+    if SHARED.stat().st_mtime < began:
+        os.utime(SHARED, (began, began))
 
 
 class Library:
@@ -81,7 +93,7 @@ class Library:
         """The same for an entry point that fills its buffer whole."""
         count, out = self.call(name, room, *arguments)
         if count != room:
-            raise Fault(f"selkaum_{name} returned {count} and not {room}: the library is not the one that the desk needs")
+            raise Fault(f"the library is not the one that the desk needs: selkaum_{name} returns {count} and not {room}")
         return out
 
     def initial(self) -> bytes:
@@ -94,7 +106,7 @@ class Library:
         return out[:numbers.PICTURE_BYTES], Answer(out[CODE], out[CITED])
 
     def gain(self, picture: bytes, record: bytes) -> Optional[Tuple[int, int]]:
-        """The first gear and operation that a record refused for own gain would permit its sender; None if there is none."""
+        """The first gear and operation that a record would permit its sender, who lacks it; None if there is none."""
         count, out = self.call("gain", GAIN_BYTES, picture, len(picture), record, len(record))
         return (out[0], out[1]) if count == GAIN_BYTES else None
 

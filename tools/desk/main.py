@@ -10,7 +10,7 @@ from desk.output import ALL_DONE, Output, guarded
 from desk.running import run
 
 DESCRIPTION = "A club's requests in words, answered in words by the proved board. Without a command: a prompt."
-STATUSES = "Exit status: 0 all done, 1 something refused (or an answer not as expected), 2 usage, or an input that can't be read."
+STATUSES = "Exit status: 0 all done, 1 something refused or not as expected, 2 usage, or an input that can't be read."
 REQUEST = "request"  # what the request of `what-if` is called in messages
 
 
@@ -107,7 +107,7 @@ WORK: Dict[Optional[str], Callable[[argparse.Namespace, Output], int]] = {
 def add_common(parser: argparse.ArgumentParser, default) -> None:
     """The options that every command has."""
     parser.add_argument("--json", action="store_true", default=default, help="answers as JSON, with numbers and words")
-    parser.add_argument("--card", metavar="CARD", default=default, help="the club on this card, and not the founding, to begin with")
+    parser.add_argument("--card", metavar="CARD", default=default, help="begin with the club on this card")
 
 
 def parser_of() -> argparse.ArgumentParser:
@@ -125,16 +125,19 @@ def parser_of() -> argparse.ArgumentParser:
 
     words = "a file of requests in words (.club or .case), or - for standard input"
     part("run", "judge each request of a file").add_argument("file", metavar="FILE", help=words)
-    for name, about in (("may", "who may do what on which gear"), ("show", "the sheet in words"), ("draw", "the club as DOT, or as SVG")):
+    for name, about in (("may", "who may do what on which gear"), ("show", "the sheet in words"),
+                        ("draw", "the club as DOT, or as SVG")):
         part(name, about).add_argument("file", metavar="FILE", nargs="?", help=f"{words}; not needed with --card")
     parts.choices["draw"].add_argument("--svg", metavar="OUT", help="write an SVG to this file (needs graphviz)")
     who = part("who", "what one object is, and what a member holds and may use")
     who.add_argument("file", metavar="FILE", nargs="?", help=f"{words}; not needed with --card")
     who.add_argument("name", metavar="NAME", help="a name or a number")
     what_if = part("what-if", "what would be answered to a request; nothing is kept")
-    what_if.add_argument("words", metavar="FILE REQUEST", nargs="+", help="a file in words, then a request; with --card the request alone")
+    what_if.add_argument("words", metavar="FILE REQUEST", nargs="+",
+                         help="a file in words, then a request; with --card the request alone")
     part("bytes", "from words to records").add_argument("file", metavar="FILE", help=words)
-    part("words", "from records to words").add_argument("file", metavar="RECORDS", help="a file of records, or - for standard input")
+    records = part("words", "from records to words")
+    records.add_argument("file", metavar="RECORDS", help="a file of records, or - for standard input")
     save = part("save", "write the club's card")
     save.add_argument("file", metavar="FILE", help=words)
     save.add_argument("target", metavar="CARD", help="the card to write")

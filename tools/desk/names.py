@@ -56,7 +56,8 @@ class Names:
         """A fault if the name stands for an object already."""
         known = self.bound.get(word.text)
         if known:
-            raise Fault(f"{word.text!r} already stands for object {known.number} ({known.since}); expected a new name", word.column)
+            raise Fault(f"{word.text!r} already stands for object {known.number} ({known.since}); expected a new name",
+                        word.column)
 
     def number(self, word: Word) -> int:
         """The number that a name stands for, or a fault."""

@@ -1,4 +1,4 @@
-"""The tables of document 01, said once: kinds of requests, sorts, warrants, operations, refusals, and where they stand."""
+"""The tables of document 01, said once: kinds of requests, sorts, warrants, operations, refusals, the picture."""
 
 from typing import Dict, NamedTuple, Optional, Tuple
 

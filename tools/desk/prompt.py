@@ -101,7 +101,8 @@ class Prompt:
         """The club at hand is now the one on a card."""
         self.club = files.read_card(self.club.library, card)
         count = len(self.club.objects())
-        self.out.tell([f"done: the club on {card} has {counted(count, 'object')}"], {"code": numbers.DONE, "card": card, "objects": count})
+        self.out.tell([f"done: the club on {card} has {counted(count, 'object')}"],
+                      {"code": numbers.DONE, "word": numbers.word_of(numbers.DONE), "card": card, "objects": count})
 
     # Completion.
 

@@ -46,14 +46,20 @@ def rule_data(club: Club, rule: Rule) -> Data:
 
 def may_data(club: Club) -> Data:
     """Each member and gear with the operations that he is permitted there."""
-    return {"permits": [{"member": thing(club, member), "gear": thing(club, gear), "operations": operations_data(operations)}
-                        for member in club.objects(numbers.MEMBER) for gear, operations in club.permits(member)]}
+    return {"permits": [{"member": thing(club, member), **permit} for member in club.objects(numbers.MEMBER)
+                        for permit in uses_data(club, member)]}
+
+
+def uses_data(club: Club, member: int) -> List[Data]:
+    """Each gear on which a member is permitted something, as data."""
+    return [{"gear": thing(club, gear), "operations": operations_data(found)} for gear, found in club.permits(member)]
 
 
 def may_lines(club: Club) -> List[str]:
     """The same in words."""
-    return [f"{club.called(member)} on {club.called(gear)}: {names_of(operations)}"
-            for member in club.objects(numbers.MEMBER) for gear, operations in club.permits(member)] or ["nobody may use any gear"]
+    lines = [f"{club.called(member)} on {club.called(gear)}: {names_of(operations)}"
+             for member in club.objects(numbers.MEMBER) for gear, operations in club.permits(member)]
+    return lines or ["nobody may do anything on any gear"]
 
 
 def names_of(operations) -> str:
@@ -105,9 +111,9 @@ def who_data(club: Club, which: int) -> Data:
             "in": things(club, club.direct_groups(which)), "under": things(club, under(club, which))}
     if club.sort(which) != numbers.MEMBER:
         return {**data, "under it": things(club, below(club, which))}
-    return {**data, "owns": things(club, club.set_of("owned", which)), "manages": things(club, club.set_of("managed", which)),
-            "administers": [{"users": things(club, users), "gear": things(club, gear)} for users, gear in pairs_of(club, which)],
-            "uses": [{"gear": thing(club, gear), "operations": operations_data(found)} for gear, found in club.permits(which)],
+    pairs = [{"users": things(club, users), "gear": things(club, gear)} for users, gear in pairs_of(club, which)]
+    return {**data, "owns": things(club, club.set_of("owned", which)),
+            "manages": things(club, club.set_of("managed", which)), "administers": pairs, "uses": uses_data(club, which),
             "warrants": [warrant_data(club, held) for held in club.warrants() if held.holder == which]}
 
 
@@ -122,15 +128,16 @@ def who_lines(club: Club, which: int) -> List[str]:
     uses = "; ".join(f"{club.called(gear)} ({names_of(found)})" for gear, found in club.permits(which))
     held = "; ".join(f"{w.place} {warrant_in_words(club, w)}" for w in club.warrants() if w.holder == which)
     return lines + [f"owns: {said(club.set_of('owned', which))}", f"manages: {said(club.set_of('managed', which))}",
-                    f"administers: {pairs or 'nothing'}", f"may use: {uses or 'nothing'}", f"holds the warrants: {held or 'none'}"]
+                    f"administers: {pairs or 'nothing'}", f"may use: {uses or 'nothing'}",
+                    f"holds the warrants: {held or 'none'}"]
 
 
 # The sheet.
 
 def show_data(club: Club) -> Data:
     """The whole sheet."""
-    objects = [{**thing(club, which), "sort": numbers.SORTS[club.sort(which)], "in": things(club, club.direct_groups(which))}
-               for which in club.objects()]
+    objects = [{**thing(club, which), "sort": numbers.SORTS[club.sort(which)],
+                "in": things(club, club.direct_groups(which))} for which in club.objects()]
     return {"objects": objects, "warrants": [warrant_data(club, warrant) for warrant in club.warrants()],
             "rules": [rule_data(club, rule) for rule in club.rules()]}
 
@@ -146,7 +153,8 @@ def show_lines(club: Club) -> List[str]:
     lines.append("warrants")
     lines += [f"  {w.place:2} {club.called(w.holder)} is {warrant_in_words(club, w)}" for w in club.warrants()]
     lines.append("rules")
-    lines += [f"  {rule.place:2} {rule_in_words(club, rule)}: {operations_in_words(rule.operations)}" for rule in club.rules()]
+    lines += [f"  {rule.place:2} {rule_in_words(club, rule)}: {operations_in_words(rule.operations)}"
+              for rule in club.rules()]
     return lines
 
 
@@ -163,10 +171,16 @@ def what_if(club: Club, source: str, line: int, text: str) -> List[Judged]:
     return list(run(club.copy(), source, [item]))
 
 
+def judged_data(judged: Judged) -> Data:
+    """A request and its answer as data."""
+    code = judged.answer.code
+    return {"request": judged.item.text, "code": code, "word": numbers.word_of(code), "cited": judged.answer.cited,
+            "text": judged.words}
+
+
 def if_data(club: Club, judged: Judged) -> Data:
     """An answer as data; for own gain what the library tells of it."""
-    data = {"request": judged.item.text, "code": judged.answer.code, "word": numbers.word_of(judged.answer.code),
-            "cited": judged.answer.cited, "text": judged.words}
+    data = judged_data(judged)
     if judged.answer.code != numbers.OWN_GAIN:
         return data
     gained = club.library.gain(club.picture, judged.record)

@@ -47,7 +47,8 @@ def post_fields(club: Club, post: Post):
 def appoint(club: Club, asked: Spoken) -> bytes:
     """The record of an APPOINT."""
     sender, fields = number_of(club, asked.sender), post_fields(club, asked.post)
-    place = place_of(asked.place, club.free_warrant(), asked.column, f"all {numbers.WARRANT_PLACES} warrants are in use")
+    full = f"all {numbers.WARRANT_PLACES} warrants are in use"
+    place = place_of(asked.place, club.free_warrant(), asked.column, full)
     return numbers.record("APPOINT", sender, place, *fields)
 
 
@@ -77,14 +78,14 @@ def grant(club: Club, asked: Spoken) -> bytes:
 
 
 def standing_rule(club: Club, asked: Spoken) -> int:
-    """The lowest place of a rule with these groups, and with just these operations if some are given; a fault if there is none."""
+    """The lowest place of a rule with these groups, and with just these operations if some are given; else a fault."""
     users, gear = number_of(club, asked.users), number_of(club, asked.gear)
     for rule in club.rules():
         if (rule.users, rule.gear) == (users, gear) and asked.operations in (0, rule.operations):
             return rule.place
     just = " with just these operations" if asked.operations else ""
-    raise Fault(f"no rule is in use for {asked.users.text} on {asked.gear.text}{just}; expected one that is, or `rule` and its place",
-                asked.column)
+    raise Fault(f"no rule is in use for {asked.users.text} on {asked.gear.text}{just}; "
+                "expected one that is, or `rule` and its place", asked.column)
 
 
 def withdraw(club: Club, asked: Spoken) -> bytes:

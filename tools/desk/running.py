@@ -1,4 +1,4 @@
-"""Lines run over a club: their bytes are one stream, read record by record as the board reads it, each judged on the sheet then."""
+"""Lines run over a club. Their bytes are one stream, which is read record by record as the board reads it."""
 
 from typing import Iterator, List, NamedTuple, Optional, Union
 

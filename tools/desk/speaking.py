@@ -127,7 +127,8 @@ def bytes_lines(data: bytes) -> List[str]:
         hexadecimal = f"{data[at]:02X}"
         words += [f"{hexadecimal}*{end - at}"] if end - at >= SHORTEST_RUN else [hexadecimal] * (end - at)
         at = end
-    return [" ".join(["bytes", *words[start:start + BYTES_ON_A_LINE]]) for start in range(0, len(words), BYTES_ON_A_LINE)]
+    starts = range(0, len(words), BYTES_ON_A_LINE)
+    return [" ".join(["bytes", *words[start:start + BYTES_ON_A_LINE]]) for start in starts]
 
 
 def in_words(club: Club, data: bytes) -> Iterator[str]:

@@ -11,7 +11,8 @@ ARROW = "->"
 PLACE_SIGN = "="
 COMMANDS = ("may", "who", "what-if", "show", "draw", "save", "load", "help", "quit")  # those of the prompt
 PLAIN_WORDS = ("in", "into", "from", "of", "over", "warrant", "rule", "all", "bytes", "repeat")
-RESERVED = frozenset((*numbers.KINDS, *numbers.SORTS[1:], *numbers.WARRANTS[1:], *numbers.OPERATIONS, *PLAIN_WORDS, *COMMANDS))
+RESERVED = frozenset((*numbers.KINDS, *numbers.SORTS[1:], *numbers.WARRANTS[1:], *numbers.OPERATIONS,
+                      *PLAIN_WORDS, *COMMANDS))
 NAME_RULE = "a name has letters, digits, _ and -, and does not begin with a digit or -"
 
 WORD = re.compile(r"->|=|(?:(?!->)[^\s=])+")
@@ -115,4 +116,5 @@ class Cursor:
         """A fault if there are more words."""
         word = self.peek()
         if word is not None:
-            raise Fault(f"{quoted(word.text)} is one word too many; expected the end of the request: {form}", word.column)
+            raise Fault(f"{quoted(word.text)} is one word too many; expected the end of the request: {form}",
+                        word.column)
