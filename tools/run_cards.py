@@ -17,7 +17,7 @@ import sys
 import tempfile
 from pathlib import Path
 
-import run_cases
+from desk.grammar import record_in
 
 ROOT = Path(__file__).resolve().parent.parent
 SECONDS = 10
@@ -126,8 +126,8 @@ def loads(program):
     load(program, "the founding's card, and the sample", FOUNDING, 0, sample, lines)
     load(program, "damaged bytes, and the sample", FOUNDING + b"\0", 13, sample, lines)
     load(program, "the sample's card", SAMPLE, 0)
-    load(program, "the longest card", FULL, 0, run_cases.one_record("MAKE 63 5 1 0".split()), b"0 8 255\n")
-    load(program, "no bytes", b"", 0, run_cases.one_record("MAKE 1 2 2 0".split()), b"0 4 255\n")
+    load(program, "the longest card", FULL, 0, record_in("MAKE 63 5 1 0"), b"0 8 255\n")
+    load(program, "no bytes", b"", 0, record_in("MAKE 1 2 2 0"), b"0 4 255\n")
     load(program, "the founding's card, and 65,537 bytes", FOUNDING, 0, bytes(65537), b"too long\n")
     for length in range(1, len(FOUNDING)):
         load(program, f"the first {length} bytes of the founding's card", FOUNDING[:length], 13)

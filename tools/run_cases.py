@@ -5,13 +5,14 @@
     run_cases.py --bytes CASE        write the records of a case to standard output, to be piped into the board
     run_cases.py --self-test         show that wrong output and faulty case files are noticed
 
-A case file is text. `#` begins a comment; every other line is one of
+A case file is text in the grammar of the desk (tools/desk/grammar.py). `#` begins a comment; every other line is one of
 
     MAKE 1 2 2 0            -> 0 255     a record: its kind, all its fields in document 01's order; code and cited rule
     bytes 08 00 63 00*5     -> 2 255     the raw bytes of a record, hexadecimal; `00*5` is a byte five times
-    repeat 9 USE 1 1 0      -> 7 255     either of these nine times, with the same answer to each
+    novice USE rig tune     -> 0 0       a request in words; a case with one needs the library, by which names are found
+    repeat 9 USE 1 1 0      -> 7 255     any of these nine times, with the same answer to each
 
-The answers bear no index: the lines of output are counted here. A line without an arrow has no line of output:
+Here every record has its answer. The answers bear no index: the lines of output are counted here. A line without an arrow has no line of output:
 such lines stand only behind a torn place (code 1), which ends the reading, and in a case whose whole output is
 `too long`, which has the one answer `-> too long` on its last line.
 """
@@ -23,22 +24,15 @@ import sys
 from pathlib import Path
 from typing import NamedTuple, Tuple, Union
 
-CASES = Path(__file__).resolve().parent.parent / "cases"
-TOO_LONG = "too long"
-NOTHING_CITED = 255
-SECONDS = 60  # the time that one case may take
+from desk import files, grammar
+from desk.club import founded
+from desk.faults import Fault
+from desk.library import opened
+from desk.numbers import Answer, NOTHING_CITED, TOO_LONG, framed, kind_of
+from desk.speaking import records_of
 
-FIELDS = {  # the fields after the kind; the kinds are numbered from 1
-    "MAKE": "sender place sort group",
-    "PUT": "sender object group",
-    "TAKE": "sender object group",
-    "APPOINT": "sender place kind holder A B",
-    "DISMISS": "sender place",
-    "GRANT": "sender place U T operations",
-    "WITHDRAW": "sender place",
-    "USE": "sender gear operation",
-}
-KINDS = list(FIELDS)
+CASES = Path(__file__).resolve().parent.parent / "cases"
+SECONDS = 60  # the time that one case may take
 
 CAN_COME = {  # the codes that can be answered from the founding; every one of them must occur in the cases
     "torn": {1},
@@ -54,16 +48,6 @@ CAN_COME = {  # the codes that can be answered from the founding; every one of t
 }
 
 
-class Fault(Exception):
-    """A fault in a line of a case file."""
-
-
-class Answer(NamedTuple):
-    """What the board says to a record."""
-    code: int
-    cited: int
-
-
 class Item(NamedTuple):
     """A line of a case file: a record, how often it comes, and the answer to each."""
     line: int
@@ -71,6 +55,8 @@ class Item(NamedTuple):
     record: bytes
     times: int
     answer: Union[Answer, str, None]  # the string is TOO_LONG; None has no line of output
+    column: int  # of the record
+    arrow: int  # the column of the answer, or of the line's end
 
 
 class Case(NamedTuple):
@@ -81,146 +67,77 @@ class Case(NamedTuple):
 
 # Reading a case file.
 
-def number(word, lowest, highest, what):
-    """The decimal number in a word, or a fault that says what it should have been."""
-    if not re.fullmatch(r"[0-9]+", word) or not lowest <= int(word) <= highest:
-        raise Fault(f"{what} must be a number from {lowest} to {highest}, not {word!r}")
-    return int(word)
-
-
-def raw_bytes(words):
-    """The bytes that two-digit words stand for, `HH` or `HH*N`."""
-    if not words:
-        raise Fault("`bytes` without a byte")
-    result = b""
-    for word in words:
-        match = re.fullmatch(r"([0-9A-Fa-f]{2})(?:\*([0-9]+))?", word)
-        if not match:
-            raise Fault(f"a byte is two hexadecimal digits, with *N if it comes N times, not {word!r}")
-        result += bytes.fromhex(match[1]) * int(match[2] or 1)
-    return result
-
-
-def known_record(kind, words):
-    """The record of a kind with these fields: length and kind in two bytes each, low byte first, then the fields."""
-    names = FIELDS[kind].split()
-    if len(words) != len(names):
-        raise Fault(f"{kind} takes {len(names)} fields ({FIELDS[kind]}), not {len(words)}")
-    fields = bytes(number(word, 0, 255, name) for word, name in zip(words, names))
-    return (4 + len(fields)).to_bytes(2, "little") + (1 + KINDS.index(kind)).to_bytes(2, "little") + fields
-
-
-def one_record(words):
-    """The bytes of a record given by its kind or as raw bytes."""
-    if words and words[0] == "bytes":
-        return raw_bytes(words[1:])
-    if words and words[0] in FIELDS:
-        return known_record(words[0], words[1:])
-    raise Fault(f"expected a kind of record or `bytes`, not {' '.join(words)!r}")
-
-
-def times_and_record(words):
-    """How often a line's record comes, and its bytes."""
-    if words and words[0] == "repeat":
-        return number(words[1] if len(words) > 1 else "", 1, 65536, "repeat"), one_record(words[2:])
-    return 1, one_record(words)
-
-
-def answer_in(text):
-    """The answer written behind an arrow."""
-    words = text.split()
-    if words == TOO_LONG.split():
-        return TOO_LONG
-    if len(words) != 2:
-        raise Fault(f"an answer is a code and a cited rule, or `{TOO_LONG}`, not {text.strip()!r}")
-    return Answer(number(words[0], 0, 12, "code"), number(words[1], 0, 255, "cited rule"))
-
-
-def item_in(line, text):
-    """The item on a line that isn't blank or all comment."""
-    record_text, arrow, answer_text = text.partition("->")
-    times, record = times_and_record(record_text.split())
-    return Item(line, " ".join(record_text.split()), record, times, answer_in(answer_text) if arrow else None)
-
-
-def framed(data):
-    """How many bytes the record at the start of the data has; None if it is torn."""
-    length = int.from_bytes(data[:2], "little")
-    return length if len(data) >= 4 and 4 <= length <= len(data) else None
-
-
 def subject(record):
     """What a record is to the board: torn, unknown, or one of the kinds."""
     if framed(record) != len(record):
         return "torn"
-    kind = int.from_bytes(record[2:4], "little")
-    return KINDS[kind - 1] if 1 <= kind <= len(KINDS) else "unknown"
+    return kind_of(record) or "unknown"
 
 
 def check_answer(item):
     """A fault if the answer is none that a board could give to this record."""
     name, (code, cited) = subject(item.record), item.answer
     if code not in CAN_COME[name]:
-        raise Fault(f"code {code} can't be the answer to this: {name}")
+        raise Fault(f"code {code} can't be the answer to this: {name}", item.arrow)
     if name == "USE" and code == 0:
         if cited > 63:
-            raise Fault(f"an accepted USE cites a place from 0 to 63, not {cited}")
+            raise Fault(f"an accepted USE cites a place from 0 to 63, not {cited}", item.arrow)
     elif cited != NOTHING_CITED:
-        raise Fault(f"only an accepted USE cites a rule: {NOTHING_CITED} here, not {cited}")
+        raise Fault(f"only an accepted USE cites a rule: {NOTHING_CITED} here, not {cited}", item.arrow)
 
 
 def check_place(item, torn, too_long):
     """A fault if the item's answer, or its lack of one, may not stand here; torn is the torn item before it, if any."""
     if too_long:
         if item.answer is not None:
-            raise Fault(f"the only answer is `{TOO_LONG}` on the last line")
+            raise Fault(f"the only answer is `{TOO_LONG}` on the last line", item.arrow)
     elif torn:
         if item.answer is not None:
-            raise Fault(f"no answer here: the board stops reading at the torn place in line {torn.line}")
+            raise Fault(f"no answer here: the board stops reading at the torn place in line {torn.line}", item.arrow)
     elif item.answer is None:
-        raise Fault("no answer: `-> CODE CITED` is missing")
+        raise Fault("no answer: `-> CODE CITED` is missing", item.arrow)
     elif item.answer == TOO_LONG:
-        raise Fault(f"`{TOO_LONG}` stands only on the last line")
+        raise Fault(f"`{TOO_LONG}` stands only on the last line", item.arrow)
     else:
         check_answer(item)
         if item.answer.code == 1 and item.times > 1:
-            raise Fault("a torn place can't be repeated")
+            raise Fault("a torn place can't be repeated", item.column)
 
 
 def check_torn(torn, items):
     """A fault if the bytes behind a torn place complete its record."""
     rest = assemble(item for item in items if item.line >= torn.line)
     if framed(rest):
-        raise Fault(f"not torn: with the bytes behind it this is a record of {framed(rest)} bytes")
+        raise Fault(f"not torn: with the bytes behind it this is a record of {framed(rest)} bytes", torn.column)
 
 
-def parse(name, text):
-    """The case in a text; a fault names the file and the line."""
-    items, line = [], 0
-    try:
-        for line, whole in enumerate(text.splitlines(), 1):
-            content = whole.partition("#")[0]
-            if content.strip():
-                items.append(item_in(line, content))
-        too_long = bool(items) and items[-1].answer == TOO_LONG
-        torn = None
-        for item in items[:-1] if too_long else items:
-            line = item.line
+def check_items(name, items):
+    """A fault, with file, line and column, if an answer is missing or can't be."""
+    too_long = bool(items) and items[-1].answer == TOO_LONG
+    torn = None
+    for item in items[:-1] if too_long else items:
+        try:
             check_place(item, torn, too_long)
             if item.answer and item.answer.code == 1:
                 torn = item
                 check_torn(torn, items)
-    except Fault as fault:
-        raise Fault(f"{name}:{line}: {fault}") from None
-    return Case(name, tuple(items))
+        except Fault as fault:
+            raise fault.at(name, item.line) from None
+
+
+def parse(name, text):
+    """The case in a text; a fault names the file, the line and the column."""
+    lines = grammar.lines_in(name, text)
+    records = records_of(name, lines, lambda: founded(opened()))
+    items = tuple(Item(line.line, line.text, record, line.times, line.answer, line.column, line.arrow)
+                  for line, record in zip(lines, records))
+    check_items(name, items)
+    return Case(name, items)
 
 
 def load(path):
     """The case in a file."""
-    try:
-        return parse(str(path), Path(path).read_text(encoding="utf-8"))
-    except (OSError, UnicodeDecodeError) as error:
-        raise Fault(f"{path}: {error}") from None
+    return parse(str(path), files.read_text(str(path)))
 
 
 # What goes in and what must come out.
@@ -339,35 +256,37 @@ def test_bytes():
 
 
 def test_faults():
-    """Faulty case files are refused with file, line and reason."""
-    for text, line, reason in (
-        ("\nJOIN 1 2 -> 0 255", 2, "expected a kind of record or `bytes`, not 'JOIN 1 2'"),
-        ("-> 0 255", 1, "expected a kind"),
-        ("MAKE 1 2 2 -> 0 255", 1, "MAKE takes 4 fields (sender place sort group), not 3"),
-        ("PUT 1 256 0 -> 5 255", 1, "object must be a number from 0 to 255, not '256'"),
-        ("USE 1 x 0 -> 5 255", 1, "gear must be a number"),
-        ("bytes -> 1 255", 1, "without a byte"),
-        ("bytes 8 -> 1 255", 1, "two hexadecimal digits"),
-        ("repeat -> 1 255", 1, "repeat must be a number"),
-        ("repeat 2 repeat 2 USE 1 1 0 -> 7 255", 1, "expected a kind"),
-        ("repeat 2 bytes 00 -> 1 255", 1, "can't be repeated"),
-        ("USE 1 1 0", 1, "no answer"),
-        ("USE 1 1 0 -> 7", 1, "an answer is a code and a cited rule"),
-        ("USE 1 1 0 -> 13 255", 1, "code must be a number from 0 to 12"),
-        ("USE 1 1 0 -> 8 255", 1, "code 8 can't be the answer to this: USE"),
-        ("USE 1 1 0 -> 0 255", 1, "cites a place from 0 to 63"),
-        ("USE 1 1 0 -> 7 0", 1, "only an accepted USE cites a rule"),
-        ("bytes 07 00 08 00 -> 7 255", 1, "code 7 can't be the answer to this: torn"),
-        ("bytes 04 00 09 00 -> 3 255", 1, "code 3 can't be the answer to this: unknown"),
-        ("bytes 05 00 09 00 -> 1 255\nbytes 00", 1, "not torn: with the bytes behind it"),
-        ("bytes 00 -> 1 255\nUSE 1 1 0 -> 7 255", 2, "stops reading at the torn place in line 1"),
-        ("USE 1 1 0 -> too long\nUSE 1 1 0 -> 7 255", 1, "only on the last line"),
-        ("USE 1 1 0 -> 7 255\nbytes 00*65530 -> too long", 1, "the only answer is `too long`"),
+    """Faulty case files are refused with file, line, column and reason."""
+    for text, place, reason in (
+        ("\nJOIN 1 2 -> 0 255", "2:6", "expected a kind of request, not '1'"),
+        ("-> 0 255", "1:1", "expected a request"),
+        ("MAKE 1 2 2 -> 0 255", "1:12", "MAKE takes 4 fields (sender place sort group), not 3"),
+        ("MAKE 1 2 2 0 0 -> 0 255", "1:14", "MAKE takes 4 fields (sender place sort group), not 5"),
+        ("PUT 1 256 0 -> 5 255", "1:7", "object must be a number from 0 to 255, not '256'"),
+        ("USE 1 x 0 -> 5 255", "1:7", "gear must be a number"),
+        ("bytes -> 1 255", "1:7", "expected a byte"),
+        ("bytes 8 -> 1 255", "1:7", "two hexadecimal digits"),
+        ("repeat -> 1 255", "1:8", "how often"),
+        ("repeat 0 USE 1 1 0 -> 7 255", "1:8", "repeat must be a number"),
+        ("repeat 2 repeat 2 USE 1 1 0 -> 7 255", "1:10", "expected a request"),
+        ("repeat 2 bytes 00 -> 1 255", "1:1", "can't be repeated"),
+        ("USE 1 1 0", "1:10", "no answer"),
+        ("USE 1 1 0 -> 7", "1:14", "an answer is a code and a cited rule"),
+        ("USE 1 1 0 -> 13 255", "1:14", "code must be a number from 0 to 12"),
+        ("USE 1 1 0 -> 8 255", "1:11", "code 8 can't be the answer to this: USE"),
+        ("USE 1 1 0 -> 0 255", "1:11", "cites a place from 0 to 63"),
+        ("USE 1 1 0 -> 7 0", "1:11", "only an accepted USE cites a rule"),
+        ("bytes 07 00 08 00 -> 7 255", "1:19", "code 7 can't be the answer to this: torn"),
+        ("bytes 04 00 09 00 -> 3 255", "1:19", "code 3 can't be the answer to this: unknown"),
+        ("bytes 05 00 09 00 -> 1 255\nbytes 00", "1:1", "not torn: with the bytes behind it"),
+        ("bytes 00 -> 1 255\nUSE 1 1 0 -> 7 255", "2:11", "stops reading at the torn place in line 1"),
+        ("USE 1 1 0 -> too long\nUSE 1 1 0 -> 7 255", "1:11", "only on the last line"),
+        ("USE 1 1 0 -> 7 255\nbytes 00*65530 -> too long", "1:11", "the only answer is `too long`"),
     ):
         try:
             parse("bad.case", text)
         except Fault as fault:
-            assert str(fault).startswith(f"bad.case:{line}: ") and reason in str(fault), (text, str(fault))
+            assert str(fault).startswith(f"bad.case:{place}: ") and reason in str(fault), (text, str(fault))
         else:
             raise AssertionError(f"no fault found in {text!r}")
 

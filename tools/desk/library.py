@@ -43,12 +43,28 @@ SIGNATURES = {
 
 def is_fresh() -> bool:
     """True if nothing that the library is made from is younger than it, so that nobody needs to be asked."""
-    if not SHARED.exists():
+    try:
+        made = SHARED.stat().st_mtime
+        folders = [folder for folder, _, _ in os.walk(ROOT / "crates")]
+        files = [entry for folder in folders for entry in os.scandir(folder)]
+        return all(entry.stat().st_mtime <= made for entry in [*files, ROOT / "crates.txt"])
+    except OSError:
         return False
-    made = SHARED.stat().st_mtime
-    folders = [folder for folder, _, _ in os.walk(ROOT / "crates")]
-    files = [entry for folder in folders for entry in os.scandir(folder)]
-    return all(entry.stat().st_mtime <= made for entry in [*files, ROOT / "crates.txt"])
+
+
+def prove() -> int:
+    """Has the library proved and linked; the status of tools/prove, which ends with the desk."""
+    try:
+        process = subprocess.Popen([str(PROVE), "library"], stdin=subprocess.DEVNULL, stdout=subprocess.DEVNULL,
+                                   env={**os.environ, "SELKAUM_CALLER": "desk"})
+    except OSError as error:
+        raise Fault(f"the library has to be built, and tools/prove can't be run: {error.strerror}") from None
+    with process:
+        try:
+            return process.wait()
+        except BaseException:
+            process.terminate()
+            raise
 
 
 def build() -> None:
@@ -56,16 +72,12 @@ def build() -> None:
     if is_fresh():
         return
     began = time.time()
-    try:
-        done = subprocess.run([str(PROVE), "library"], stdin=subprocess.DEVNULL, stdout=subprocess.DEVNULL,
-                              env={**os.environ, "SELKAUM_CALLER": "desk"}, check=False)
-    except OSError as error:
-        raise Fault(f"the library has to be built, and tools/prove can't be run: {error.strerror}") from None
-    if done.returncode == 1:
+    status = prove()
+    if status == 1:
         raise Fault("the library is not proved, so it is not used")
-    if done.returncode != 0 or not SHARED.exists():
-        raise Fault(f"the library could not be built: tools/prove ended with the status {done.returncode}")
-    if SHARED.stat().st_mtime < began:
+    if status != 0 or not SHARED.exists():
+        raise Fault(f"the library could not be built: tools/prove ended with the status {status}")
+    if SHARED.stat().st_mtime < began and os.access(SHARED, os.W_OK):
         os.utime(SHARED, (began, began))
 
 
@@ -93,7 +105,7 @@ class Library:
         """The same for an entry point that fills its buffer whole."""
         count, out = self.call(name, room, *arguments)
         if count != room:
-            raise Fault(f"the library is not the one that the desk needs: selkaum_{name} returns {count} and not {room}")
+            raise Fault(f"the library is not the one that the desk needs: selkaum_{name} returns {count}, not {room}")
         return out
 
     def initial(self) -> bytes:

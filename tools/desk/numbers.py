@@ -62,7 +62,7 @@ REFUSALS: Dict[int, Refusal] = {
     6: Refusal("absent", "what the request names is not there"),
     7: Refusal("wrong sort", "what the request names is of another sort than is needed there"),
     8: Refusal("already so", "the place is in use, or the membership is as the request would make it"),
-    9: Refusal("no authority", "the sender has not the authority for this request"),
+    9: Refusal("no authority", "the sender has no authority for this"),
     10: Refusal("own gain", "a request may not give its sender what he lacks"),
     11: Refusal("hand-over", "a PUT may not make a member own or manage what its sender does not own"),
     12: Refusal("orphan", "no object may be left without an owner"),

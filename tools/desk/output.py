@@ -2,6 +2,7 @@
 
 import json
 import os
+import signal
 import sys
 from typing import Any, Iterable
 
@@ -52,6 +53,13 @@ def open_streams() -> None:
         sys.stdin.reconfigure(errors="surrogateescape")
 
 
+def end_whole() -> None:
+    """A desk that is ended ends what it started first."""
+    for number in (signal.SIGTERM, signal.SIGHUP):
+        if signal.getsignal(number) == signal.SIG_DFL:
+            signal.signal(number, lambda which, _: sys.exit(128 + which))
+
+
 def drop_output() -> None:
     """Nothing more is written, so that the end of the process does not try."""
     nowhere = os.open(os.devnull, os.O_WRONLY)
@@ -63,6 +71,7 @@ def guarded(work) -> int:
     """The exit status of some work; what keeps it from its end is told in one line."""
     try:
         open_streams()
+        end_whole()
         status = work()
         sys.stdout.flush()
         return status

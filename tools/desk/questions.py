@@ -113,7 +113,8 @@ def who_data(club: Club, which: int) -> Data:
         return {**data, "under it": things(club, below(club, which))}
     pairs = [{"users": things(club, users), "gear": things(club, gear)} for users, gear in pairs_of(club, which)]
     return {**data, "owns": things(club, club.set_of("owned", which)),
-            "manages": things(club, club.set_of("managed", which)), "administers": pairs, "uses": uses_data(club, which),
+            "manages": things(club, club.set_of("managed", which)),
+            "administers": pairs, "uses": uses_data(club, which),
             "warrants": [warrant_data(club, held) for held in club.warrants() if held.holder == which]}
 
 

@@ -148,14 +148,18 @@ def in_words(club: Club, data: bytes) -> Iterator[str]:
         at += length
 
 
-def in_bytes(source: str, items: List[grammar.Line], begin: Callable[[], Club]) -> bytes:
-    """The records of all lines, one behind the other. A club is begun only where a line in words needs one."""
+def records_of(source: str, items: List[grammar.Line], begin: Callable[[], Club]) -> List[bytes]:
+    """The bytes of each line, once. A club is begun only where a line in words needs one."""
     if all(isinstance(item.request, grammar.Exact) for item in items):
-        return b"".join(item.request.data * item.times for item in items)
-    parts = []
-    reading = Reading(begin(), source)
+        return [item.request.data for item in items]
+    records, reading = [], Reading(begin(), source)
     for item in items:
-        parts.append(reading.bytes_of(item) * item.times)
+        records.append(reading.bytes_of(item))
         for _ in reading.take(item):
             pass
-    return b"".join(parts)
+    return records
+
+
+def in_bytes(source: str, items: List[grammar.Line], begin: Callable[[], Club]) -> bytes:
+    """The records of all lines, one behind the other."""
+    return b"".join(record * item.times for record, item in zip(records_of(source, items, begin), items))
