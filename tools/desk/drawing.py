@@ -9,12 +9,15 @@ from desk.club import Club
 from desk.faults import Fault
 from desk.files import write_file
 
-HEAD = ("digraph club {", '  rankdir="BT"; nodesep="0.35"; ranksep="0.6";',
-        '  node [fontname="Helvetica", fontsize="12"];', '  edge [fontname="Helvetica", fontsize="10"];')
-SHAPES = {numbers.GROUP: 'shape="box"', numbers.MEMBER: 'shape="ellipse"', numbers.GEAR: 'shape="hexagon"'}
+HEAD = ("digraph club {", '  rankdir="LR"; nodesep="0.2"; ranksep="0.5";',
+        '  node [fontname="Helvetica", fontsize="12", height="0.35"];', '  edge [arrowsize="0.7"];')
+SHAPES = {numbers.GROUP: 'shape="box", style="filled", fillcolor="gray92"', numbers.MEMBER: 'shape="ellipse"',
+          numbers.GEAR: 'shape="hexagon"'}
 CIRCLE = 'color="red", penwidth="2"'
-POST = 'style="dashed", color="gray40", fontcolor="gray40", constraint="false"'
-RULE = 'color="blue", fontcolor="blue", penwidth="1.5", arrowhead="vee", constraint="false"'
+POST_NODE = 'shape="plaintext", fontcolor="gray30", fontsize="10", height="0.2"'
+POST = 'style="dashed", color="gray40"'
+RULE_NODE = 'shape="note", color="blue", fontcolor="blue", fontsize="10"'
+RULE = 'color="blue", penwidth="1.5"'
 SECONDS = 60
 
 
@@ -45,22 +48,27 @@ def memberships_drawn(club: Club) -> List[str]:
 
 
 def posts_drawn(club: Club) -> List[str]:
-    """A dashed edge from each holder to the group of his warrant; of an administrator one to each of the two."""
+    """A dashed way from each holder, by the word for his warrant, to its group; of an administrator to both groups."""
     lines = []
     for warrant in club.warrants():
-        word = numbers.WARRANTS[warrant.kind]
-        ends = [(warrant.a, word)]
-        if warrant.kind == numbers.ADMINISTRATOR:
-            ends = [(warrant.a, f"{word}: users"), (warrant.b, f"{word}: gear")]
-        holder = node(warrant.holder)
-        lines += [f"  {holder} -> {node(group)} [label={quoted(label)}, {POST}];" for group, label in ends]
+        here = f"w{warrant.place}"
+        lines.append(f"  {here} [label={quoted(numbers.WARRANTS[warrant.kind])}, {POST_NODE}];")
+        lines.append(f'  {node(warrant.holder)} -> {here} [{POST}, arrowhead="none"];')
+        is_pair = warrant.kind == numbers.ADMINISTRATOR
+        lines += [f"  {here} -> {node(group)} [{POST}];" for group in ((warrant.a, warrant.b) if is_pair else (warrant.a,))]
     return lines
 
 
 def rules_drawn(club: Club) -> List[str]:
-    """An edge from the users of each rule to its gear, with the operations."""
-    return [f"  {node(rule.users)} -> {node(rule.gear)} [label={quoted(operations_in_words(rule.operations))}, {RULE}];"
-            for rule in club.rules()]
+    """A way from the users of each rule, by its operations, to its gear."""
+    lines = []
+    for rule in club.rules():
+        here = f"r{rule.place}"
+        label = f"rule {rule.place}: {operations_in_words(rule.operations)}"
+        lines.append(f"  {here} [label={quoted(label)}, {RULE_NODE}];")
+        lines.append(f'  {node(rule.users)} -> {here} [{RULE}, arrowhead="none"];')
+        lines.append(f"  {here} -> {node(rule.gear)} [{RULE}];")
+    return lines
 
 
 def dot(club: Club) -> str:
