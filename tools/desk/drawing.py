@@ -54,8 +54,8 @@ def posts_drawn(club: Club) -> List[str]:
         here = f"w{warrant.place}"
         lines.append(f"  {here} [label={quoted(numbers.WARRANTS[warrant.kind])}, {POST_NODE}];")
         lines.append(f'  {node(warrant.holder)} -> {here} [{POST}, arrowhead="none"];')
-        is_pair = warrant.kind == numbers.ADMINISTRATOR
-        lines += [f"  {here} -> {node(group)} [{POST}];" for group in ((warrant.a, warrant.b) if is_pair else (warrant.a,))]
+        groups = (warrant.a, warrant.b) if warrant.kind == numbers.ADMINISTRATOR else (warrant.a,)
+        lines += [f"  {here} -> {node(group)} [{POST}];" for group in groups]
     return lines
 
 

@@ -57,7 +57,7 @@ def read_bytes(name: str, most: int, what: str) -> bytes:
     except (OSError, ValueError) as error:
         raise Fault(f"{source}: it can't be read: {getattr(error, 'strerror', None) or error}") from None
     if len(data) > most:
-        raise Fault(f"{source}: it has more than {most} bytes; expected {what}, which is shorter")
+        raise Fault(f"{source}: it has more than {most} bytes; expected {what}")
     return data
 
 
@@ -96,12 +96,12 @@ def read_text(name: str) -> str:
 
 def read_records(name: str) -> bytes:
     """The bytes of a file of records."""
-    return read_bytes(name, MOST_BYTES, "a file of records")
+    return read_bytes(name, MOST_BYTES, f"a file of records, at most {MOST_BYTES >> 20} MiB")
 
 
 def read_card(library: Library, name: str) -> Club:
     """The club of a card, its objects under their plain names."""
-    data = read_bytes(name, LARGEST_CARD, f"a card, which has at most {LARGEST_CARD} bytes")
+    data = read_bytes(name, LARGEST_CARD, f"a card, at most {LARGEST_CARD} bytes")
     code, picture = library.read_card(library.initial(), data)
     if code != numbers.DONE:
         word, sentence = numbers.REFUSALS[code]

@@ -1,12 +1,13 @@
 """The command line of the desk."""
 
 import argparse
+import sys
 from typing import Callable, Dict, List, Optional
 
-from desk import commands, files, grammar, prompt, speaking
+from desk import commands, files, grammar, prompt, sentences, speaking
 from desk.club import Club, founded
 from desk.library import Library, opened
-from desk.output import ALL_DONE, Output, guarded
+from desk.output import ALL_DONE, Output, complain, guarded
 from desk.running import run
 
 DESCRIPTION = "A club's requests in words, answered in words by the proved board. Without a command: a prompt."
@@ -56,7 +57,8 @@ def ask_draw(options: argparse.Namespace, out: Output) -> int:
 
 def ask_who(options: argparse.Namespace, out: Output) -> int:
     """desk who FILE NAME."""
-    return commands.who(club_after(options, options.file), options.name, out)
+    name = options.words[0] if len(options.words) == 2 else None
+    return commands.who(club_after(options, name), options.words[-1], out)
 
 
 def ask_what_if(options: argparse.Namespace, out: Output) -> int:
@@ -104,6 +106,17 @@ WORK: Dict[Optional[str], Callable[[argparse.Namespace, Output], int]] = {
 }
 
 
+class Parser(argparse.ArgumentParser):
+    """A parser whose failed writes are not passed over."""
+
+    def _print_message(self, message: str, file=None) -> None:
+        """Help goes to standard output, and what is wrong to standard error."""
+        if file is sys.stdout:
+            file.write(message)
+        else:
+            complain(message.rstrip("\n"))
+
+
 def add_common(parser: argparse.ArgumentParser, default) -> None:
     """The options that every command has."""
     parser.add_argument("--json", action="store_true", default=default, help="answers as JSON, with numbers and words")
@@ -112,7 +125,8 @@ def add_common(parser: argparse.ArgumentParser, default) -> None:
 
 def parser_of() -> argparse.ArgumentParser:
     """The parser of the whole command line."""
-    parser = argparse.ArgumentParser("desk", description=DESCRIPTION, epilog=STATUSES, allow_abbrev=False)
+    parser = Parser("desk", description=DESCRIPTION, epilog=f"{sentences.all_forms()}\n\n{STATUSES}",
+                    allow_abbrev=False, formatter_class=argparse.RawDescriptionHelpFormatter)
     add_common(parser, None)
     parser.add_argument("--history", metavar="FILE", help="keep the lines that are typed at the prompt in this file")
     parts = parser.add_subparsers(dest="command", metavar="COMMAND")
@@ -130,8 +144,8 @@ def parser_of() -> argparse.ArgumentParser:
         part(name, about).add_argument("file", metavar="FILE", nargs="?", help=f"{words}; not needed with --card")
     parts.choices["draw"].add_argument("--svg", metavar="OUT", help="write an SVG to this file (needs graphviz)")
     who = part("who", "what one object is, and what a member holds and may use")
-    who.add_argument("file", metavar="FILE", nargs="?", help=f"{words}; not needed with --card")
-    who.add_argument("name", metavar="NAME", help="a name or a number")
+    who.add_argument("words", metavar="FILE NAME", nargs="+",
+                     help="a file in words, not needed with --card, then a name or a number")
     what_if = part("what-if", "what would be answered to a request; nothing is kept")
     what_if.add_argument("words", metavar="FILE REQUEST", nargs="+",
                          help="a file in words, then a request; with --card the request alone")
@@ -144,13 +158,26 @@ def parser_of() -> argparse.ArgumentParser:
     return parser
 
 
+def parsed(parser: argparse.ArgumentParser, arguments: Optional[List[str]]) -> argparse.Namespace:
+    """The command line, where an option may also stand between the words of `who` and `what-if`."""
+    options, more = parser.parse_known_args(arguments)
+    if more and (not hasattr(options, "words") or any(word.startswith("-") for word in more)):
+        parser.error(f"unrecognized arguments: {' '.join(more)}")
+    if more:
+        options.words += more
+    return options
+
+
 def work(arguments: Optional[List[str]]) -> int:
     """Reads the command line and does what it says."""
     parser = parser_of()
-    options = parser.parse_args(arguments)
-    if options.command in ("may", "show", "draw", "who") and options.file is None and not options.card:
+    options = parsed(parser, arguments)
+    count = len(getattr(options, "words", ()))
+    if options.command in ("may", "show", "draw") and options.file is None and not options.card:
         parser.error(f"{options.command}: give a FILE or --card CARD")
-    if options.command == "what-if" and len(options.words) < (1 if options.card else 2):
+    if options.command == "who" and (count > 2 or count < (1 if options.card else 2)):
+        parser.error("who: give a FILE (or --card CARD) and one NAME")
+    if options.command == "what-if" and count < (1 if options.card else 2):
         parser.error("what-if: give a FILE (or --card CARD) and a REQUEST")
     if options.command and options.history:
         parser.error("--history is for the prompt, which has no command")

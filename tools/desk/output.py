@@ -4,7 +4,7 @@ import json
 import os
 import signal
 import sys
-from typing import Any, Iterable
+from typing import Any, Callable, Iterable
 
 from desk.faults import Fault
 
@@ -67,19 +67,13 @@ def drop_output() -> None:
     os.close(nowhere)
 
 
-def guarded(work) -> int:
+def guarded(work: Callable[[], int]) -> int:
     """The exit status of some work; what keeps it from its end is told in one line."""
     try:
-        open_streams()
-        end_whole()
-        status = work()
-        sys.stdout.flush()
+        status = ended(work)
+        if sys.stdout is not None:
+            sys.stdout.flush()
         return status
-    except Fault as fault:
-        complain(fault.told())
-        return flushed(CANT_BE_READ)
-    except KeyboardInterrupt:
-        return flushed(INTERRUPTED)
     except BrokenPipeError:
         drop_output()
         return BROKEN_PIPE
@@ -89,11 +83,16 @@ def guarded(work) -> int:
         return CANT_BE_READ
 
 
-def flushed(status: int) -> int:
-    """The status, once what was said before is written, as far as it can be."""
-    if sys.stdout is not None:
-        try:
-            sys.stdout.flush()
-        except OSError:
-            drop_output()
-    return status
+def ended(work: Callable[[], int]) -> int:
+    """The same, but for a failed write."""
+    try:
+        open_streams()
+        end_whole()
+        return work()
+    except Fault as fault:
+        complain(fault.told())
+        return CANT_BE_READ
+    except KeyboardInterrupt:
+        return INTERRUPTED
+    except SystemExit as end:  # the way in which argparse and a signal end it
+        return end.code

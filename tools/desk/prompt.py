@@ -19,20 +19,10 @@ PROMPT = "desk> "
 GREETING = "A club at hand: `help` tells what can be typed, `quit` ends."
 SOURCE = files.STANDARD_INPUT
 MOST_LINE = files.MOST_TEXT
-HELP = """Requests, each by its sender (a name or a number; MAKE gives a name):
-{forms}
-  Numbers and bytes are taken too: MAKE 1 2 2 0, bytes 08 00 01 00 01 02 02 00, repeat 3 USE 7 6 2
-Operations: {operations}; 6 and 7 are the club's own
-Questions: may, who NAME, what-if REQUEST, show, draw [SVG]
+HELP = f"""{sentences.all_forms()}
+Questions: may, who NAME, what-if REQUEST, show, draw, draw SVG
 The club on a card: save CARD, load CARD
 quit, or the end of the input, ends the desk"""
-
-
-def help_text() -> str:
-    """What can be typed."""
-    forms = "\n".join(f"  SENDER {form}" for kind in numbers.KINDS for form in sentences.FORMS[kind])
-    named = ", ".join(f"{k} {name}" for k, name in enumerate(numbers.OPERATIONS))
-    return HELP.format(forms=forms, operations=named)
 
 
 class Prompt:
@@ -93,7 +83,7 @@ class Prompt:
         elif word == "load":
             self.load(rest)
         elif word == "help":
-            self.out.tell([help_text()], {"help": help_text()})
+            self.out.tell([HELP], {"help": HELP})
         else:
             {"may": commands.may, "show": commands.show}[word](self.club, self.out)
 

@@ -25,6 +25,15 @@ def form(kind: str) -> str:
     return ", or ".join(f"SENDER {one}" for one in FORMS[kind])
 
 
+def all_forms() -> str:
+    """How all requests are written, for those who ask for help."""
+    forms = "\n".join(f"  SENDER {one}" for kind in numbers.KINDS for one in FORMS[kind])
+    operations = ", ".join(f"{k} {name}" for k, name in enumerate(numbers.OPERATIONS))
+    return (f"Requests, each by its sender (a name or a number; MAKE gives a name):\n{forms}\n"
+            "  Numbers and bytes are taken too: MAKE 1 2 2 0, bytes 08 00 01 00 01 02 02 00, repeat 3 USE 7 6 2\n"
+            f"Operations: {operations}; 6 and 7 are the club's own")
+
+
 class Post(NamedTuple):
     """A warrant as it is named: kind, holder, A, and B for an administrator."""
     kind: int

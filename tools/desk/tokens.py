@@ -13,7 +13,8 @@ COMMANDS = ("may", "who", "what-if", "show", "draw", "save", "load", "help", "qu
 PLAIN_WORDS = ("in", "into", "from", "of", "over", "warrant", "rule", "all", "bytes", "repeat")
 RESERVED = frozenset((*numbers.KINDS, *numbers.SORTS[1:], *numbers.WARRANTS[1:], *numbers.OPERATIONS,
                       *PLAIN_WORDS, *COMMANDS))
-NAME_RULE = "a name has letters, digits, _ and -, and does not begin with a digit or -"
+LONGEST_NAME = 64
+NAME_RULE = f"a name has letters, digits, _ and -, at most {LONGEST_NAME}, and does not begin with a digit or -"
 
 WORD = re.compile(r"->|=|(?:(?!->)[^\s=])+")
 NAME = re.compile(r"[^\W\d][\w-]*")
@@ -56,7 +57,7 @@ def check_name(word: Word, what: str) -> Word:
     """The word, if it can be a name; else a fault."""
     if word.text in RESERVED or word.text in (ARROW, PLACE_SIGN):
         raise Fault(f"{word.text!r} is a word of the grammar and no name; expected {what}", word.column)
-    if not NAME.fullmatch(word.text):
+    if not NAME.fullmatch(word.text) or len(word.text) > LONGEST_NAME:
         raise Fault(f"{quoted(word.text)} is no name; expected {what} ({NAME_RULE})", word.column)
     return word
 
