@@ -140,11 +140,9 @@ def in_words(club: Club, data: bytes) -> Iterator[str]:
             yield from bytes_lines(data[at:])
             return
         record = data[at:at + length]
-        lines = record_in_words(club, record)
-        yield from lines
-        for item in grammar.lines_in("records", "\n".join(lines)):
-            for _ in reading.take(item):
-                pass
+        yield from record_in_words(club, record)
+        for _ in reading.take(grammar.Line(1, "", grammar.Exact(record))):
+            pass
         at += length
 
 

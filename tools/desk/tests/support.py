@@ -1,12 +1,13 @@
 """What the tests share: the desk as a process, folders, and files of requests."""
 
 import json
+import os
 import subprocess
 import sys
 import tempfile
 import unittest
 from pathlib import Path
-from typing import List, NamedTuple, Optional
+from typing import Dict, List, NamedTuple, Optional
 
 ROOT = Path(__file__).resolve().parent.parent.parent.parent
 DESK = ROOT / "desk"
@@ -26,11 +27,18 @@ class Ended(NamedTuple):
     raw: bytes
 
 
-def run_desk(*words, data: bytes = b"", program: Path = DESK, **more) -> Ended:
+def environment(**more: str) -> Dict[str, str]:
+    """The environment of a desk: compiled modules are kept below target/, so that the next process starts sooner."""
+    kept = {name: value for name, value in os.environ.items() if name != "PYTHONDONTWRITEBYTECODE"}
+    return {**kept, "PYTHONPYCACHEPREFIX": str(ROOT / "target" / "pycache"), **more}
+
+
+def run_desk(*words, data: bytes = b"", program: Path = DESK, env: Optional[Dict[str, str]] = None, **more) -> Ended:
     """Runs the desk with these words and this standard input."""
     command = [sys.executable, str(program), *map(str, words)]
-    done = subprocess.run(command, input=data, capture_output=True, timeout=SECONDS, check=False, **more)
-    return Ended(done.returncode, done.stdout.decode(), done.stderr.decode(), done.stdout)
+    done = subprocess.run(command, input=data, capture_output=True, timeout=SECONDS, check=False,
+                          env=env or environment(), **more)
+    return Ended(done.returncode, done.stdout.decode(errors="replace"), done.stderr.decode(), done.stdout)
 
 
 class DeskTest(unittest.TestCase):

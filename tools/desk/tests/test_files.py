@@ -8,7 +8,7 @@ import sys
 import time
 import unittest
 
-from desk.tests.support import CLUB, DESK, DeskTest, SECONDS
+from desk.tests.support import CLUB, DESK, DeskTest, SECONDS, environment
 
 ONE = "founder MAKE member a in club"
 NOBODY = 65534
@@ -46,7 +46,7 @@ class Encodings(DeskTest):
     def test_a_plain_locale(self):
         """A name that the locale can't write does not end the desk."""
         ended = self.desk("run", "-", data="founder MAKE member j\u00fcrgen in club".encode(), status=0,
-                          env={**os.environ, "PYTHONIOENCODING": "ascii"})
+                          env=environment(PYTHONIOENCODING="ascii"))
         self.assertIn(r"member j\xfcrgen is object 2", ended.out)
 
 
@@ -122,18 +122,20 @@ class Outputs(DeskTest):
 
     def shell(self, script: str) -> subprocess.CompletedProcess:
         """Runs a script in which $desk and $club stand for both."""
-        env = {**os.environ, "desk": str(DESK), "club": str(CLUB)}
-        return subprocess.run(["bash", "-c", script], capture_output=True, timeout=SECONDS, check=False, env=env)
+        return subprocess.run(["bash", "-c", script], capture_output=True, timeout=SECONDS, check=False,
+                              env=environment(desk=str(DESK), club=str(CLUB)))
 
     def test_a_full_disk(self):
         """Every command says that its output can't be written."""
         for words in ("run $club", "may $club", "show $club", "draw $club", "who $club anna", "bytes $club", "--help",
                       "words $club", "what-if $club anna USE hf tune", "run $club --json", "run --help"):
-            for setting in ("", "env -u PYTHONUNBUFFERED "):
-                with self.subTest(words=words):
-                    done = self.shell(f"{setting}$desk {words} > /dev/full")
-                    self.assertEqual(done.returncode, 2)
-                    self.assertEqual(done.stderr.decode(), "desk: standard output can't be written: No space left on device\n")
+            with self.subTest(words=words):
+                done = self.shell(f"env -u PYTHONUNBUFFERED $desk {words} > /dev/full")
+                said = (done.returncode, done.stderr.decode())
+                self.assertEqual(said, (2, "desk: standard output can't be written: No space left on device\n"))
+        for words in ("run $club", "--help"):
+            done = self.shell(f"PYTHONUNBUFFERED=1 $desk {words} > /dev/full")
+            self.assertEqual(done.returncode, 2)
 
     def test_a_closed_pipe(self):
         """A reader that has enough ends the desk without a word."""
