@@ -2,7 +2,9 @@
 
 import ctypes
 import os
+import signal
 import subprocess
+import sys
 import time
 from pathlib import Path
 from typing import Optional, Tuple
@@ -54,6 +56,17 @@ def is_fresh() -> bool:
 
 def prove() -> int:
     """Has the library proved and linked; the status of tools/prove, which ends with the desk."""
+    enders = (signal.SIGTERM, signal.SIGHUP)
+    before = [signal.signal(number, lambda which, _: sys.exit(128 + which)) for number in enders]
+    try:
+        return proved()
+    finally:
+        for number, handler in zip(enders, before):
+            signal.signal(number, handler)
+
+
+def proved() -> int:
+    """The same; what ends the desk meanwhile ends tools/prove first."""
     try:
         process = subprocess.Popen([str(PROVE), "library"], stdin=subprocess.DEVNULL, stdout=subprocess.DEVNULL,
                                    env={**os.environ, "SELKAUM_CALLER": "desk"})
@@ -61,7 +74,9 @@ def prove() -> int:
         raise Fault(f"the library has to be built, and tools/prove can't be run: {error.strerror}") from None
     with process:
         try:
-            return process.wait()
+            while process.poll() is None:
+                time.sleep(0.05)
+            return process.returncode
         except BaseException:
             process.terminate()
             raise

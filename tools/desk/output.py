@@ -2,7 +2,6 @@
 
 import json
 import os
-import signal
 import sys
 from typing import Any, Callable, Iterable
 
@@ -53,13 +52,6 @@ def open_streams() -> None:
         sys.stdin.reconfigure(errors="surrogateescape")
 
 
-def end_whole() -> None:
-    """A desk that is ended ends what it started first."""
-    for number in (signal.SIGTERM, signal.SIGHUP):
-        if signal.getsignal(number) == signal.SIG_DFL:
-            signal.signal(number, lambda which, _: sys.exit(128 + which))
-
-
 def drop_output() -> None:
     """Nothing more is written, so that the end of the process does not try."""
     nowhere = os.open(os.devnull, os.O_WRONLY)
@@ -87,12 +79,11 @@ def ended(work: Callable[[], int]) -> int:
     """The same, but for a failed write."""
     try:
         open_streams()
-        end_whole()
         return work()
     except Fault as fault:
         complain(fault.told())
         return CANT_BE_READ
     except KeyboardInterrupt:
         return INTERRUPTED
-    except SystemExit as end:  # the way in which argparse and a signal end it
+    except SystemExit as end:  # the way in which argparse, or a signal while the library is built, ends it
         return end.code

@@ -154,7 +154,13 @@ class Outputs(DeskTest):
         process.stdin.write(f"{ONE}\n".encode())
         process.stdin.flush()
         self.assertEqual(process.stdout.readline(), b"record 0: done: member a is object 2 in club\n")
-        process.send_signal(signal.SIGINT)
+        for _ in range(SECONDS):  # Python may miss one that comes just before it waits for a line
+            process.send_signal(signal.SIGINT)
+            try:
+                process.wait(0.5)
+                break
+            except subprocess.TimeoutExpired:
+                pass
         _, err = process.communicate(timeout=SECONDS)
         self.assertEqual((process.returncode, err), (130, b""))
 
