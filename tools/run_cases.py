@@ -12,9 +12,9 @@ A case file is text in the grammar of the desk (tools/desk/grammar.py). `#` begi
     novice USE rig tune     -> 0 0       a request in words; a case with one needs the library, by which names are found
     repeat 9 USE 1 1 0      -> 7 255     any of these nine times, with the same answer to each
 
-Here every record has its answer. The answers bear no index: the lines of output are counted here. A line without an arrow has no line of output:
-such lines stand only behind a torn place (code 1), which ends the reading, and in a case whose whole output is
-`too long`, which has the one answer `-> too long` on its last line.
+Here every record has its answer. The answers bear no index: the lines of output are counted here. A line without an
+arrow has no line of output: such lines stand only behind a torn place (code 1), which ends the reading, and in a case
+whose whole output is `too long`, which has the one answer `-> too long` on its last line.
 """
 
 import argparse

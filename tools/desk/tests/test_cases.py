@@ -1,4 +1,4 @@
-"""The desk beside the board: the same answers on all cases, the same cards, and words that give the same records back."""
+"""The desk beside the board: the same answers on all cases, the same cards, and words that give the records back."""
 
 import json
 import subprocess
@@ -24,7 +24,8 @@ def lines_of(path: Path):
 
 def on_board(records: bytes) -> str:
     """What the board prints."""
-    return subprocess.run([str(RUNNER)], input=records, capture_output=True, timeout=SECONDS, check=True).stdout.decode()
+    return subprocess.run([str(RUNNER)], input=records, capture_output=True, timeout=SECONDS,
+                          check=True).stdout.decode()
 
 
 @unittest.skipUnless(RUNNER.exists(), "the board is not built")
@@ -55,7 +56,8 @@ class BesideTheBoard(DeskTest):
         for name in ("sample", "hand_over", "torn_middle_length_one", "input_full_torn_tail"):
             self.assertEqual(self.desk("run", CASES / f"{name}.case").err, "")
         err = self.desk("run", CASES / "input_too_long_by_one.case", status=1).err
-        self.assertEqual(err, "desk: the records have 65537 bytes, and the board takes 65536 at once: it would answer `too long`\n")
+        self.assertEqual(err, "desk: the records have 65537 bytes, and the board takes 65536 at once: "
+                              "it would answer `too long`\n")
 
     def test_run_cases_takes_words(self):
         """A file in words with an answer to every line is a case."""
@@ -85,14 +87,15 @@ class RoundTrip(DeskTest):
 
     def test_by_processes(self):
         """`desk bytes` and `desk words`, one behind the other."""
-        for path in (CLUB, CASES / "own_gain_by_put.case", CASES / "unknown_kind.case", CASES / "torn_middle_length_one.case"):
+        for path in (CLUB, CASES / "own_gain_by_put.case", CASES / "unknown_kind.case",
+                     CASES / "torn_middle_length_one.case"):
             records = self.desk("bytes", path, status=0).raw
             words = self.desk("words", self.file("records", records), status=0).raw
             self.assertEqual(self.desk("bytes", self.file("again.club", words), status=0).raw, records)
             self.assertEqual(self.desk("words", "-", data=records, status=0).raw, words)
 
     def test_words(self):
-        """What is made has a plain name from its MAKE on; what has no name is told in numbers, and what is no record as bytes."""
+        """What is made has a plain name from its MAKE on; what has none is told in numbers, or as bytes."""
         text = """\
 MAKE 1 2 2 0
 MAKE 1 2 2 0
@@ -153,11 +156,12 @@ class Cards(DeskTest):
     @unittest.skipUnless(CARD.exists(), "the program for cards is not built")
     def test_the_same_card(self):
         """`desk save` writes, byte for byte, the card that the program for cards writes."""
-        for path in (SAMPLE, CLUB, CASES / "full_objects.case", CASES / "full_rules.case", CASES / "full_warrants.case"):
+        for path in (SAMPLE, CLUB, CASES / "full_objects.case", CASES / "full_rules.case",
+                     CASES / "full_warrants.case"):
             with self.subTest(file=path.name):
                 records = self.desk("bytes", path, status=0).raw
-                subprocess.run([str(CARD), "save", "board.card"], input=records, cwd=self.folder, timeout=SECONDS, check=True,
-                               stdout=subprocess.DEVNULL)
+                subprocess.run([str(CARD), "save", "board.card"], input=records, cwd=self.folder, timeout=SECONDS,
+                               check=True, stdout=subprocess.DEVNULL)
                 out = self.desk("save", path, "desk.card", status=0).out
                 card = (self.folder / "board.card").read_bytes()
                 self.assertEqual((self.folder / "desk.card").read_bytes(), card)
@@ -167,7 +171,8 @@ class Cards(DeskTest):
         """The sheet of the card is the one that was saved; only the names are plain ones."""
         self.desk("save", CLUB, "club.card", status=0)
         before, after = (self.documents("show", *words)[0] for words in ((CLUB,), ("--card", "club.card")))
-        self.assertEqual([one["name"] for one in after["objects"][:5]], ["club", "founder", "group2", "group3", "gear4"])
+        self.assertEqual([one["name"] for one in after["objects"][:5]],
+                         ["club", "founder", "group2", "group3", "gear4"])
         for one in (*before["objects"], *after["objects"]):
             one["in"] = [group["number"] for group in one["in"]]
             del one["name"]
@@ -181,7 +186,8 @@ class Cards(DeskTest):
         self.desk("save", CLUB, "club.card", status=0)
         self.assertIn("member8 on gear4: listen", self.desk("may", "--card", "club.card", status=0).out)
         self.assertIn("member6 is member, object 6", self.desk("who", "--card", "club.card", "member6", status=0).out)
-        self.assertIn("refused, 10 own gain", self.desk("what-if", "--card", "club.card", "member6 PUT 6 into group2", status=1).out)
+        ended = self.desk("what-if", "--card", "club.card", "member6 PUT 6 into group2", status=1)
+        self.assertIn("refused, 10 own gain", ended.out)
         self.assertIn('label="member6"', self.desk("draw", "--card", "club.card", status=0).out)
 
     def test_damaged(self):
@@ -189,15 +195,17 @@ class Cards(DeskTest):
         for content in (b"no card", b"\0"):
             said = self.faulty("may", "--card", self.file("x.card", content))
             self.assertTrue(said.endswith("x.card: 13 damaged: it is no card"), said)
-        self.assertEqual(self.desk("show", "--card", self.file("x.card", b""), status=0).out, "objects\nwarrants\nrules\n")
+        self.assertEqual(self.desk("show", "--card", self.file("x.card", b""), status=0).out,
+                         "objects\nwarrants\nrules\n")
 
     def test_saving_fails(self):
-        """An old card stays, and nothing is left beside it, where the new one can't be written or the file is faulty."""
+        """An old card stays, and nothing is left beside it, where the new one can't be written or made."""
         old = self.file("old.card", b"old")
         bad = self.file("bad.club", "founder PUT")
         self.faulty("save", bad, old)
         self.assertIn(".: it is a directory", self.faulty("save", CLUB, "."))
-        self.assertIn("none/x.card: it can't be written: No such file or directory", self.faulty("save", CLUB, "none/x.card"))
+        self.assertIn("none/x.card: it can't be written: No such file or directory",
+                      self.faulty("save", CLUB, "none/x.card"))
         self.assertIn("there is no such file", self.faulty("save", CLUB, ""))
         self.assertEqual(sorted(path.name for path in self.folder.iterdir()), ["bad.club", "old.card"])
         self.assertEqual(old.read_bytes(), b"old")

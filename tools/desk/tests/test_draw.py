@@ -25,13 +25,14 @@ class Draw(DeskTest):
         lines = self.desk("draw", CLUB, status=0).out.splitlines()
         self.assertEqual((lines[0], lines[-1]), ("digraph club {", "}"))
         for label, shape in (("radios", "box"), ("hf", "hexagon"), ("anna", "ellipse")):
-            self.assertEqual(len([line for line in lines if f'label="{label}"' in line and f'shape="{shape}"' in line]), 1)
+            found = [line for line in lines if f'label="{label}"' in line]
+            self.assertEqual([f'shape="{shape}"' in line for line in found], [True])
         self.assertIn("  n4 -> n3;", lines)
         self.assertIn('  n7 -> w2 [style="dashed", color="gray40", arrowhead="none"];', lines)
         self.assertIn('  w2 -> n2 [style="dashed", color="gray40"];', lines)
         self.assertIn('  w2 -> n3 [style="dashed", color="gray40"];', lines)
-        words = [word for word in ("owner", "manager", "administrator") if any(f'label="{word}"' in line for line in lines)]
-        self.assertEqual(words, ["owner", "manager", "administrator"])
+        for word in ("owner", "manager", "administrator"):
+            self.assertTrue(any(f'label="{word}"' in line for line in lines), word)
         self.assertTrue(any('label="rule 0: listen, tune, transmit"' in line for line in lines))
         self.assertNotIn("red", "".join(lines))
 
@@ -60,18 +61,21 @@ class Draw(DeskTest):
     def test_without_graphviz(self):
         """One sentence says that graphviz is not there."""
         said = self.faulty("draw", CLUB, "--svg", "x.svg", env=self.path_with())
-        self.assertEqual(said, "desk: graphviz is not installed, so there is no SVG; `desk draw` without --svg writes DOT")
+        self.assertEqual(said,
+                         "desk: graphviz is not installed, so there is no SVG; `desk draw` without --svg writes DOT")
         self.assertFalse((self.folder / "x.svg").exists())
 
     def test_with_graphviz(self):
         """What `dot` makes of the DOT is written; where it fails, that is told."""
         env = self.path_with(("dot", FAKE_DOT))
-        self.assertEqual(self.desk("draw", CLUB, "--svg", "x.svg", env=env, status=0).out, "the club is drawn in x.svg\n")
+        self.assertEqual(self.desk("draw", CLUB, "--svg", "x.svg", env=env, status=0).out,
+                         "the club is drawn in x.svg\n")
         self.assertEqual((self.folder / "x.svg").read_text(), "<svg/>\n")
         self.assertEqual((self.folder / "given.dot").read_text(), self.desk("draw", CLUB).out)
         self.assertIn("it can't be written", self.faulty("draw", CLUB, "--svg", "none/x.svg", env=env))
         (self.folder / "bin/dot").write_text("#!/bin/sh\necho broken >&2\nexit 3\n")
-        self.assertEqual(self.faulty("draw", CLUB, "--svg", "x.svg", env=env), "desk: graphviz ended with the status 3: broken")
+        self.assertEqual(self.faulty("draw", CLUB, "--svg", "x.svg", env=env),
+                         "desk: graphviz ended with the status 3: broken")
 
 
 if __name__ == "__main__":

@@ -55,7 +55,8 @@ class Inputs(DeskTest):
 
     def test_no_file(self):
         """A directory, a missing file, an empty name, a device that fails: each its own sentence."""
-        for name, what in ((".", "it is a directory"), ("none.club", "there is no such file"), ("", "there is no such file"),
+        for name, what in ((".", "it is a directory"), ("none.club", "there is no such file"),
+                           ("", "there is no such file"),
                            ("none/x.club", "there is no such file"), ("/proc/self/mem", "it can't be read")):
             with self.subTest(name=name):
                 self.assertIn(f": {what}", self.faulty("run", name))
@@ -98,7 +99,8 @@ class Inputs(DeskTest):
     def test_standard_input_and_pipes(self):
         """`-`, a FIFO and /dev/stdin are read."""
         for name in ("-", "/dev/stdin"):
-            self.assertEqual(self.desk("run", name, data=ONE.encode(), status=0).out.splitlines()[-1], "1 record: 1 done, 0 refused")
+            self.assertEqual(self.desk("run", name, data=ONE.encode(), status=0).out.splitlines()[-1],
+                             "1 record: 1 done, 0 refused")
         fifo = self.folder / "fifo"
         os.mkfifo(fifo)
         writer = subprocess.Popen(["sh", "-c", f"echo '{ONE}' > fifo"], cwd=self.folder)
@@ -108,8 +110,10 @@ class Inputs(DeskTest):
     def test_closed_standard_input(self):
         """A closed standard input is no empty one."""
         for words in ("run -", ""):
-            done = subprocess.run(["sh", "-c", f"'{DESK}' {words} <&-"], capture_output=True, timeout=SECONDS, check=False)
-            self.assertEqual((done.returncode, done.stderr.decode().partition(";")[0]), (2, "desk: standard input: it is closed"))
+            done = subprocess.run(["sh", "-c", f"'{DESK}' {words} <&-"], capture_output=True, timeout=SECONDS,
+                                  check=False)
+            self.assertEqual((done.returncode, done.stderr.decode().partition(";")[0]),
+                             (2, "desk: standard input: it is closed"))
 
     def test_a_name_that_ends_otherwise(self):
         """The desk speaks words: a file of any name is in words; `--` ends the options."""
@@ -146,11 +150,13 @@ class Outputs(DeskTest):
     def test_a_closed_output(self):
         """A standard output that was never open."""
         done = self.shell("$desk run $club >&-")
-        self.assertEqual((done.returncode, done.stderr.decode()), (2, "desk: standard output is closed; expected one that can be written\n"))
+        self.assertEqual((done.returncode, done.stderr.decode()),
+                         (2, "desk: standard output is closed; expected one that can be written\n"))
 
     def test_interrupted(self):
         """Ctrl-C ends the desk with 130 and without a traceback."""
-        process = subprocess.Popen([sys.executable, str(DESK)], stdin=subprocess.PIPE, stdout=subprocess.PIPE, stderr=subprocess.PIPE)
+        process = subprocess.Popen([sys.executable, str(DESK)], stdin=subprocess.PIPE, stdout=subprocess.PIPE,
+                                   stderr=subprocess.PIPE)
         process.stdin.write(f"{ONE}\n".encode())
         process.stdin.flush()
         self.assertEqual(process.stdout.readline(), b"record 0: done: member a is object 2 in club\n")

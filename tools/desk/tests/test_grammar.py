@@ -1,4 +1,4 @@
-"""Faults of a line: where, what, and what was expected. The prompt takes many lines in one process and goes on after each."""
+"""Faults of a line: where, what, and what was expected. The prompt takes many lines in one process."""
 
 import unittest
 
@@ -63,7 +63,8 @@ FAULTS = (  # a line, the column of its fault, and a part of what is said
     ("founder PUT nobody into club", 13, "no object is called 'nobody'; expected a name that a MAKE has given"),
     ("founder PUT fuonder into club", 13, "perhaps 'founder'?"),
     ("fonder PUT founder into club", 1, "no object is called 'fonder'"),
-    ("founder MAKE group club in club", 20, "'club' already stands for object 0 (at the founding); expected a new name"),
+    ("founder MAKE group club in club", 20,
+     "'club' already stands for object 0 (at the founding); expected a new name"),
 )
 
 TAKEN = """\
@@ -94,14 +95,16 @@ class Faults(DeskTest):
     def test_a_fault_in_a_file(self):
         """A line that is no request keeps the whole file from being run; its name stands in front."""
         path = self.file("my club.club", "founder MAKE member a in club\n\n  founder PUT a in club\n")
-        self.assertEqual(self.faulty("run", path), f"{path}:3:17: 'in' stands here; expected `into`: SENDER PUT OBJECT into GROUP")
+        self.assertEqual(self.faulty("run", path),
+                         f"{path}:3:17: 'in' stands here; expected `into`: SENDER PUT OBJECT into GROUP")
         self.assertEqual(self.desk("run", path).out, "")
 
     def test_too_many_bytes(self):
         """Counts that are small one by one can't fill the memory."""
         text = b"bytes 00*16000000\nrepeat 65536 bytes 00*100000\n"
         said = self.faulty("run", "-", data=text)
-        self.assertEqual(said, "standard input:2:1: the records up to here have more than 16777216 bytes; expected fewer in one file")
+        self.assertEqual(said, "standard input:2:1: the records up to here have more than 16777216 bytes; "
+                               "expected fewer in one file")
 
     def test_what_is_taken(self):
         """Spaces, tabs, comments, numbers for names, letters of any language, and all forms beside each other."""
@@ -140,13 +143,16 @@ class Names(DeskTest):
 
     def test_not_before_its_make(self):
         """A name is unknown before its MAKE; what was judged before is told."""
-        ended = self.desk("run", "-", data=b"founder MAKE group g in club\na USE g 1\nfounder MAKE member a in club\n", status=2)
+        ended = self.desk("run", "-", data=b"founder MAKE group g in club\na USE g 1\nfounder MAKE member a in club\n",
+                          status=2)
         self.assertEqual(ended.out, "record 0: done: group g is object 2 in club\n")
-        self.assertEqual(ended.err, "standard input:2:1: no object is called 'a'; expected a name that a MAKE has given\n")
+        self.assertEqual(ended.err,
+                         "standard input:2:1: no object is called 'a'; expected a name that a MAKE has given\n")
 
     def test_numbers_for_names(self):
         """A plain number may stand wherever a name may, whatever is there."""
-        text = "1 MAKE member 5 in 0\n5 PUT 200 into 0\n1 APPOINT 5 manager of 0 = 3\n5 USE 5 200\nmember5 USE member5 0\n"
+        text = "1 MAKE member 5 in 0\n5 PUT 200 into 0\n1 APPOINT 5 manager of 0 = 3\n5 USE 5 200\n" \
+               "member5 USE member5 0\n"
         self.assertEqual([line.partition(":")[2][:12] for line in self.answers(text)],
                          [" done: membe", " refused, 5 ", " done: membe", " refused, 5 ", " refused, 7 "])
 
@@ -154,12 +160,14 @@ class Names(DeskTest):
         """Where no place is free the desk says so; a place behind `=` can still be sent."""
         many = "".join(f"founder MAKE group g{n} in club\n" for n in range(62))
         said = self.faulty("run", "-", data=(many + "founder MAKE group more in club\n").encode())
-        self.assertEqual(said, "standard input:63:9: all 64 objects are in use; expected a free place, or one behind `=`")
+        self.assertEqual(said,
+                         "standard input:63:9: all 64 objects are in use; expected a free place, or one behind `=`")
         out = self.answers(many + "founder MAKE group more in club = 63\n")
         self.assertIn("record 62: refused, 8 already so", out[-1])
         posts = b"founder APPOINT founder owner of club\n" * 32
         said = self.faulty("run", "-", data=posts)
-        self.assertEqual(said, "standard input:32:9: all 32 warrants are in use; expected a free place, or one behind `=`")
+        self.assertEqual(said,
+                         "standard input:32:9: all 32 warrants are in use; expected a free place, or one behind `=`")
         rules = (b"founder MAKE member a in club\nfounder APPOINT a manager of club\n"
                  b"a APPOINT founder administrator of club over club\n" + b"founder GRANT club club tune\n" * 65)
         said = self.faulty("run", "-", data=rules)

@@ -26,7 +26,8 @@ class Calling(DeskTest):
         """A link to the desk, and a link to that, work from any folder."""
         (self.folder / "first").symlink_to(os.path.relpath(DESK, self.folder))
         (self.folder / "second").symlink_to("first")
-        done = subprocess.run(["./second", "run", "-"], input=ONE, cwd=self.folder, capture_output=True, timeout=SECONDS,
+        done = subprocess.run(["./second", "run", "-"], input=ONE, cwd=self.folder, capture_output=True,
+                              timeout=SECONDS,
                               check=False, env=environment(CDPATH="/"))
         self.assertEqual((done.returncode, done.stdout.decode(), done.stderr), (0, ANSWER, b""))
 
@@ -34,7 +35,8 @@ class Calling(DeskTest):
         """One sentence, in words that an old Python reads too."""
         script = f"import sys; sys.version_info = (3, 7, 2); exec(open({str(DESK)!r}).read())"
         done = subprocess.run([sys.executable, "-c", script], capture_output=True, timeout=SECONDS, check=False)
-        self.assertEqual((done.returncode, done.stderr), (1, b"desk: Python 3.8 or later is needed, and this is 3.7.2\n"))
+        self.assertEqual((done.returncode, done.stderr),
+                         (1, b"desk: Python 3.8 or later is needed, and this is 3.7.2\n"))
 
     def test_the_folder_of_the_caller_is_no_module(self):
         """Files beside the caller are not taken for modules of the desk."""
@@ -99,7 +101,8 @@ class Building(DeskTest):
         for body, said in (("exit 1", "the library is not proved, so it is not used"),
                            ("exit 3", "the library could not be built: tools/prove ended with the status 3"),
                            ("exit 0", "the library could not be built: tools/prove ended with the status 0"),
-                           ("mkdir -p target/shared; echo x > target/shared/libselkaum.so", "the library can't be loaded: ")):
+                           ("mkdir -p target/shared; echo x > target/shared/libselkaum.so",
+                            "the library can't be loaded: ")):
             with self.subTest(body=body):
                 self.prove(body)
                 ended = self.run_copy()
@@ -123,9 +126,10 @@ class Building(DeskTest):
         """A desk that is ended while the library is built ends tools/prove too."""
         for number, status in ((signal.SIGTERM, 143), (signal.SIGINT, 130), (signal.SIGHUP, 129)):
             with self.subTest(signal=number):
-                self.prove("trap 'echo ended >> end; exit 1' TERM; touch begun; for i in 1 2 3 4 5 6 7 8 9; do sleep 1; done")
+                self.prove("trap 'echo ended >> end; exit 1' TERM; touch begun; for i in 1 2 3 4 5; do sleep 1; done")
                 process = subprocess.Popen([sys.executable, str(self.folder / "desk"), "run", "-"], cwd=self.folder,
-                                           stdin=subprocess.DEVNULL, stdout=subprocess.PIPE, stderr=subprocess.PIPE, env=environment())
+                                           stdin=subprocess.DEVNULL, stdout=subprocess.PIPE, stderr=subprocess.PIPE,
+                                           env=environment())
                 end = time.monotonic() + SECONDS
                 while not (self.folder / "begun").exists() and time.monotonic() < end:
                     time.sleep(0.05)
@@ -155,7 +159,8 @@ class Deciding(DeskTest):
 size_t selkaum_judge(const unsigned char *p, size_t n, const unsigned char *r, size_t m, unsigned char *a, size_t k)
 { memcpy(a, p, 960); a[960] = 11; a[961] = 255; return 962; }
 """)
-        subprocess.run(["cc", "-shared", "-fPIC", "-o", "liar.so", str(lying)], check=True, timeout=SECONDS, cwd=self.folder)
+        subprocess.run(["cc", "-shared", "-fPIC", "-o", "liar.so", str(lying)], check=True, timeout=SECONDS,
+                       cwd=self.folder)
         script = f"""
 import ctypes, sys
 sys.path.insert(0, {str(ROOT / 'tools')!r})

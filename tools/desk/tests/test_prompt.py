@@ -32,7 +32,8 @@ class Terminal:
         self.said = ""
         env = environment(TERM="xterm", INPUTRC="/dev/null", COLUMNS="200", LINES="50")
         self.process = subprocess.Popen([sys.executable, str(DESK), *map(str, words)], stdin=theirs, stdout=theirs,
-                                        stderr=theirs, cwd=folder, env=env, start_new_session=True, preexec_fn=take_terminal)
+                                        stderr=theirs, cwd=folder, env=env, start_new_session=True,
+                                        preexec_fn=take_terminal)
         os.close(theirs)
 
     def read(self, until: str) -> str:
@@ -105,7 +106,8 @@ class AtTheTerminal(DeskTest):
     def test_answers(self):
         """Requests, an error that does not end the prompt, questions, and Ctrl-D."""
         terminal = self.terminal()
-        self.assertIn("record 0: done: member ann is object 2 in club\r\n", terminal.answer("founder MAKE member ann in club"))
+        self.assertIn("record 0: done: member ann is object 2 in club\r\n",
+                      terminal.answer("founder MAKE member ann in club"))
         self.assertIn("standard input:2:13: no object is called 'anm'", terminal.answer("founder PUT anm into club"))
         self.assertIn("record 1: refused, 8 already so", terminal.answer("founder PUT ann into club"))
         self.assertIn("ann is member, object 2\r\n", terminal.answer("who ann"))
@@ -133,7 +135,8 @@ class AtTheTerminal(DeskTest):
     def test_completion(self):
         """Kinds behind a sender, names, operations and commands."""
         terminal = self.terminal()
-        for typed, done in (("fou\tMA\t", "founder MAKE "), ("founder USE fo\ttransm\t", "founder USE founder transmit "),
+        for typed, done in (("fou\tMA\t", "founder MAKE "),
+                            ("founder USE fo\ttransm\t", "founder USE founder transmit "),
                             ("wha\tfounder WITH\t", "what-if founder WITHDRAW "), ("who clu\t", "who club "),
                             ("founder APPOINT founder adm\t", "founder APPOINT founder administrator ")):
             with self.subTest(typed=typed):
@@ -220,14 +223,18 @@ founder MAKE member never in club
     def test_faulty_questions(self):
         """Words too many or too few, a card that is none, a place in the request behind `what-if`."""
         self.file("bad.card", b"bad")
-        text = b"who\nwhat-if\nsave\nload\nmay x\nquit now\nload bad.card\nload none\nwho nobody\n  what-if founder PUT x into club\n" \
+        text = b"who\nwhat-if\nsave\nload\nmay x\nquit now\nload bad.card\nload none\nwho nobody\n" \
+               b"  what-if founder PUT x into club\n" \
                b"what-if # nothing\nfounder MAKE member J\xfcrgen in club\nfounder MAKE member a\0 in club\n"
         told = self.desk(data=text, status=2).err.splitlines()
         for line, said in zip((
-            "standard input:1:1: `who` alone; expected a name behind it", "standard input:2:1: `what-if` alone; expected a request",
+            "standard input:1:1: `who` alone; expected a name behind it",
+            "standard input:2:1: `what-if` alone; expected a request",
             "standard input:3:1: `save` alone", "standard input:4:1: `load` alone",
-            "standard input:5:1: 'x' behind `may`; expected nothing", "standard input:6:1: 'now' behind `quit`; expected nothing",
-            "desk: bad.card: 13 damaged: it is no card", "desk: none: there is no such file", "desk: no object is called 'nobody'",
+            "standard input:5:1: 'x' behind `may`; expected nothing",
+            "standard input:6:1: 'now' behind `quit`; expected nothing",
+            "desk: bad.card: 13 damaged: it is no card", "desk: none: there is no such file",
+            "desk: no object is called 'nobody'",
             "standard input:10:23: no object is called 'x'", "standard input:11:1: `what-if` alone",
             "standard input:12:22: the byte FC is not UTF-8", "standard input:13:22: a NUL byte stands here",
         ), told):
@@ -238,7 +245,8 @@ founder MAKE member never in club
         """Each line is a list of its own: a torn one is answered, and the next is read."""
         out = self.desk(data=b"bytes 08 00\nfounder MAKE member a in club\n", status=1).out
         self.assertEqual([line.partition("  #")[0] for line in out.splitlines()],
-                         ["record 0: refused, 1 torn: these bytes are no whole record", "record 1: done: member a is object 2 in club"])
+                         ["record 0: refused, 1 torn: these bytes are no whole record",
+                          "record 1: done: member a is object 2 in club"])
 
     def test_json_and_a_card(self):
         """Answers as JSON, from a card."""

@@ -73,7 +73,8 @@ class Who(DeskTest):
 
     def test_faults(self):
         """A name that nobody has, a number that is empty or off the sheet, a word of the grammar."""
-        for name, what in (("belo", "no object is called 'belo'; expected a name that a MAKE has given; perhaps 'bela'?"),
+        for name, what in (("belo",
+                            "no object is called 'belo'; expected a name that a MAKE has given; perhaps 'bela'?"),
                            ("60", "object 60 is empty; expected one that is in use"),
                            ("256", "an object must be a number from 0 to 255, not '256'"),
                            ("in", "'in' is a word of the grammar and no name; expected a name or a number"),
@@ -128,8 +129,10 @@ class Show(DeskTest):
         self.assertEqual(self.desk("show", SAMPLE, status=0).out.splitlines(), [
             "objects", "   0 club       group", "   1 founder    member  in club", "   2 trainer    member  in club",
             "   3 keeper     member  in club, operators, radios", "   4 operators  group   in club",
-            "   5 radios     group   in club", "   6 rig        gear    in radios", "   7 novice     member  in operators",
-            "  63 spare      gear    in club", "warrants", "   0 founder is owner of club", "   1 trainer is manager of club",
+            "   5 radios     group   in club", "   6 rig        gear    in radios",
+            "   7 novice     member  in operators",
+            "  63 spare      gear    in club", "warrants", "   0 founder is owner of club",
+            "   1 trainer is manager of club",
             "   2 keeper is administrator of operators over radios", "   3 novice is manager of radios",
             "  31 keeper is manager of operators", "rules"])
         self.assertIn("   1 operators on radios: turn, power\n", self.desk("show", CLUB, status=0).out)
@@ -138,8 +141,10 @@ class Show(DeskTest):
         """The same with numbers."""
         data = self.documents("show", CLUB)[0]
         self.assertEqual([len(data[key]) for key in ("objects", "warrants", "rules")], [13, 4, 2])
-        self.assertEqual(data["rules"][1], {"place": 1, "U": {"number": 2, "name": "operators"}, "T": {"number": 3, "name": "radios"},
-                                            "operations": [{"number": 3, "name": "turn"}, {"number": 4, "name": "power"}]})
+        self.assertEqual(data["rules"][1], {"place": 1, "U": {"number": 2, "name": "operators"},
+                                            "T": {"number": 3, "name": "radios"},
+                                            "operations": [{"number": 3, "name": "turn"},
+                                                           {"number": 4, "name": "power"}]})
 
 
 class Usage(DeskTest):
@@ -147,8 +152,10 @@ class Usage(DeskTest):
 
     def test_wrong_words(self):
         """What is no command, or lacks its words, has the status 2."""
-        for words in (("nix",), ("run",), ("may",), ("show",), ("draw",), ("who", CLUB), ("who",), ("who", CLUB, "a", "b"),
-                      ("save", CLUB), ("words",), ("bytes",), ("run", CLUB, "more"), ("--nix",), ("--history", "x", "may", CLUB),
+        for words in (("nix",), ("run",), ("may",), ("show",), ("draw",), ("who", CLUB), ("who",),
+                      ("who", CLUB, "a", "b"),
+                      ("save", CLUB), ("words",), ("bytes",), ("run", CLUB, "more"), ("--nix",),
+                      ("--history", "x", "may", CLUB),
                       ("what-if", CLUB, "--nix", "a")):
             with self.subTest(words=words):
                 self.assertIn("usage: desk", self.desk(*words, status=2).err)

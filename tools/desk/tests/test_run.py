@@ -19,7 +19,8 @@ record 9: done by rule 0: operators on radios  # novice USE rig transmit
 record 10: refused, 9 no authority: the sender has no authority for this  # keeper USE rig transmit
 record 11: done: keeper is in operators
 record 12: done by rule 0: operators on radios  # keeper USE rig transmit
-record 13: refused, 10 own gain: a request may not give its sender what he lacks  # founder APPOINT founder manager of club
+record 13: refused, 10 own gain: a request may not give its sender what he lacks  \
+# founder APPOINT founder manager of club
 record 14: refused, 12 orphan: no object may be left without an owner  # founder TAKE founder from club
 record 15: done: rule 0 is withdrawn: operators on radios: tune, transmit
 """
@@ -212,7 +213,8 @@ class Streaming(DeskTest):
 
     def test_two_records_in_one_line(self):
         """A line may have several records, and those made in numbers have plain names."""
-        out = self.desk("run", "-", data=b"bytes 08 00 01 00 01 02 02 00 08 00 01 00 01 03 01 00\nmember2 USE group3 tune\n").out
+        text = b"bytes 08 00 01 00 01 02 02 00 08 00 01 00 01 03 01 00\nmember2 USE group3 tune\n"
+        out = self.desk("run", "-", data=text).out
         self.assertEqual(len(out.splitlines()), 4)
         self.assertIn("record 2: refused, 7 wrong sort", out)
 
