@@ -137,6 +137,8 @@ def what_if(club: Club, source: str, line: int, text: str, out: Output) -> int:
     for judged in questions.what_if(club, source, line, text):
         tally = tally.with_answer(judged)
         out.tell([questions.if_line(club, judged)], questions.if_data(club, judged))
+        if judged.is_expected is False:
+            differs(source, judged.item, answer_shown(judged.answer))
     return tally.status()
 
 

@@ -17,6 +17,7 @@ CLUB = ROOT / "examples" / "club.club"
 RUNNER = ROOT / "target" / "bin" / "runner"
 CARD = ROOT / "target" / "bin" / "card"
 SECONDS = 60
+PYTHON = (sys.executable, "-S")  # without site packages: the desk needs the standard library alone
 
 
 class Ended(NamedTuple):
@@ -35,7 +36,7 @@ def environment(**more: str) -> Dict[str, str]:
 
 def run_desk(*words, data: bytes = b"", program: Path = DESK, env: Optional[Dict[str, str]] = None, **more) -> Ended:
     """Runs the desk with these words and this standard input."""
-    command = [sys.executable, str(program), *map(str, words)]
+    command = [*PYTHON, str(program), *map(str, words)]
     done = subprocess.run(command, input=data, capture_output=True, timeout=SECONDS, check=False,
                           env=env or environment(), **more)
     return Ended(done.returncode, done.stdout.decode(errors="replace"), done.stderr.decode(), done.stdout)

@@ -77,6 +77,7 @@ class RoundTrip(DeskTest):
         library = Library()
 
         def begin():
+            """A club at its founding."""
             return founded(library)
 
         for path in FILES:

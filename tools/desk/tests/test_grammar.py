@@ -156,6 +156,12 @@ class Names(DeskTest):
         self.assertEqual([line.partition(":")[2][:12] for line in self.answers(text)],
                          [" done: membe", " refused, 5 ", " done: membe", " refused, 5 ", " refused, 7 "])
 
+    def test_a_plain_name_that_is_taken(self):
+        """An object whose plain name another has is told by its number, and has no name."""
+        text = "founder MAKE gear member9 in club\nMAKE 1 9 2 0\n9 USE member9 tune\n"
+        self.assertEqual(self.answers(text)[1], "record 1: done: a member is object 9 in club")
+        self.assertIn("   9 object 9  member  in club\n", self.desk("show", "-", data=text.encode()).out)
+
     def test_full_tables(self):
         """Where no place is free the desk says so; a place behind `=` can still be sent."""
         many = "".join(f"founder MAKE group g{n} in club\n" for n in range(62))

@@ -36,7 +36,7 @@ class Calling(DeskTest):
         script = f"import sys; sys.version_info = (3, 7, 2); exec(open({str(DESK)!r}).read())"
         done = subprocess.run([sys.executable, "-c", script], capture_output=True, timeout=SECONDS, check=False)
         self.assertEqual((done.returncode, done.stderr),
-                         (1, b"desk: Python 3.8 or later is needed, and this is 3.7.2\n"))
+                         (2, b"desk: Python 3.8 or later is needed, and this is 3.7.2\n"))
 
     def test_the_folder_of_the_caller_is_no_module(self):
         """Files beside the caller are not taken for modules of the desk."""

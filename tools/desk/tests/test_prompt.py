@@ -7,12 +7,11 @@ import pty
 import select
 import signal
 import subprocess
-import sys
 import termios
 import time
 import unittest
 
-from desk.tests.support import CLUB, DESK, DeskTest, SAMPLE, environment
+from desk.tests.support import CLUB, DESK, DeskTest, PYTHON, SAMPLE, environment
 
 PROMPT = "desk> "
 SECONDS = 15
@@ -31,7 +30,7 @@ class Terminal:
         self.mine, theirs = pty.openpty()
         self.said = ""
         env = environment(TERM="xterm", INPUTRC="/dev/null", COLUMNS="200", LINES="50")
-        self.process = subprocess.Popen([sys.executable, str(DESK), *map(str, words)], stdin=theirs, stdout=theirs,
+        self.process = subprocess.Popen([*PYTHON, str(DESK), *map(str, words)], stdin=theirs, stdout=theirs,
                                         stderr=theirs, cwd=folder, env=env, start_new_session=True,
                                         preexec_fn=take_terminal)
         os.close(theirs)

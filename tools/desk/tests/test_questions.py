@@ -114,6 +114,11 @@ class WhatIf(DeskTest):
         data = self.documents("what-if", CLUB, "anna PUT anna into operators", status=1)[0]
         self.assertEqual((data["code"], data["word"], data["permit"]["gear"]["name"]), (10, "own gain", "hf"))
 
+    def test_an_expected_answer(self):
+        """An answer may be expected of it too."""
+        ended = self.desk("what-if", CLUB, "gustav USE hf listen -> done by 0", status=1)
+        self.assertEqual(ended.err, "request:1:22: came 9 255 (no authority); expected 0 0 (done)\n")
+
     def test_faults(self):
         """The place in the request; no request at all is a matter of usage."""
         self.assertEqual(self.faulty("what-if", CLUB, "anna", "PUT", "hfx", "into", "club").partition(";")[0],
