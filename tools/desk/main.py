@@ -17,7 +17,7 @@ REQUEST = "request"  # what the request of `what-if` is called in messages
 
 def start(library: Library, options: argparse.Namespace) -> Club:
     """The club at the founding, or on the card that is given."""
-    return files.read_card(library, options.card) if options.card else founded(library)
+    return founded(library) if options.card is None else files.read_card(library, options.card)
 
 
 def club_after(options: argparse.Namespace, name: Optional[str]) -> Club:
@@ -62,8 +62,8 @@ def ask_who(options: argparse.Namespace, out: Output) -> int:
 
 
 def ask_what_if(options: argparse.Namespace, out: Output) -> int:
-    """desk what-if FILE REQUEST; with a card, what is not the request is no file either."""
-    name, words = (None, options.words) if options.card else (options.words[0], options.words[1:])
+    """desk what-if FILE REQUEST; with a card all words are the request."""
+    name, words = (options.words[0], options.words[1:]) if options.card is None else (None, options.words)
     return commands.what_if(club_after(options, name), REQUEST, 1, " ".join(words), out)
 
 
@@ -172,14 +172,14 @@ def work(arguments: Optional[List[str]]) -> int:
     """Reads the command line and does what it says."""
     parser = parser_of()
     options = parsed(parser, arguments)
-    count = len(getattr(options, "words", ()))
-    if options.command in ("may", "show", "draw") and options.file is None and not options.card:
+    count, needed = len(getattr(options, "words", ())), 2 if options.card is None else 1
+    if options.command in ("may", "show", "draw") and options.file is None and options.card is None:
         parser.error(f"{options.command}: give a FILE or --card CARD")
-    if options.command == "who" and (count > 2 or count < (1 if options.card else 2)):
+    if options.command == "who" and not needed <= count <= 2:
         parser.error("who: give a FILE (or --card CARD) and one NAME")
-    if options.command == "what-if" and count < (1 if options.card else 2):
+    if options.command == "what-if" and count < needed:
         parser.error("what-if: give a FILE (or --card CARD) and a REQUEST")
-    if options.command and options.history:
+    if options.command and options.history is not None:
         parser.error("--history is for the prompt, which has no command")
     return WORK[options.command](options, Output(bool(options.json)))
 

@@ -1,5 +1,6 @@
 """The club as a picture."""
 
+import re
 import shutil
 import unittest
 
@@ -45,6 +46,13 @@ class Draw(DeskTest):
     def test_json(self):
         """DOT in a document."""
         self.assertTrue(self.documents("draw", CLUB)[0]["dot"].startswith("digraph club {\n"))
+
+    def test_the_picture_of_the_example(self):
+        """The SVG beside the example has every label of its DOT, and as many ways."""
+        drawn, picture = self.desk("draw", CLUB, status=0).out, CLUB.with_suffix(".svg").read_text()
+        labels = re.findall(r'label="([^"]*)"', drawn)
+        self.assertEqual(sorted(re.findall(r"<text [^>]*>([^<]*)</text>", picture)), sorted(labels))
+        self.assertEqual(picture.count('class="edge"'), drawn.count(" -> "))
 
     def path_with(self, *programs) -> dict:
         """An environment in which only these programs are found."""

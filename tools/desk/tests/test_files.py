@@ -62,7 +62,7 @@ class Inputs(DeskTest):
                 self.assertIn(f": {what}", self.faulty("run", name))
         for words in (("may", "."), ("show", "none"), ("draw", "none"), ("who", "none", "a"), ("what-if", "none", "a"),
                       ("bytes", "none"), ("words", "none"), ("save", "none", "x"), ("may", "--card", "none"),
-                      ("--card", "none"), ("run", "none", "--card", "none")):
+                      ("--card", "none"), ("run", "none", "--card", "none"), ("run", "/dev/null", "--card", "")):
             with self.subTest(words=words):
                 self.assertTrue(self.faulty(*words).startswith("desk: "))
 
