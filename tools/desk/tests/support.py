@@ -30,7 +30,8 @@ class Ended(NamedTuple):
 
 def environment(**more: str) -> Dict[str, str]:
     """The environment of a desk: compiled modules are kept below target/, so that the next process starts sooner."""
-    kept = {name: value for name, value in os.environ.items() if name != "PYTHONDONTWRITEBYTECODE"}
+    unwanted = ("PYTHONDONTWRITEBYTECODE", "PYTHONUNBUFFERED")
+    kept = {name: value for name, value in os.environ.items() if name not in unwanted}
     return {**kept, "PYTHONPYCACHEPREFIX": str(ROOT / "target" / "pycache"), **more}
 
 

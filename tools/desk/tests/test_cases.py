@@ -15,6 +15,7 @@ from desk.tests.support import CARD, CASES, CLUB, DeskTest, ROOT, RUNNER, SAMPLE
 
 FILES = (*sorted(CASES.glob("*.case")), SAMPLE, CLUB)
 CORES = 2
+MOST = 1 << 14  # bytes of a case that are told in words and back: longer ones repeat a record
 
 
 def lines_of(path: Path):
@@ -82,7 +83,7 @@ class RoundTrip(DeskTest):
 
         for path in FILES:
             with self.subTest(case=path.name):
-                records = speaking.in_bytes(path.name, lines_of(path), begin)[:1 << 17]
+                records = speaking.in_bytes(path.name, lines_of(path), begin)[:MOST]
                 text = "\n".join(speaking.in_words(begin(), records))
                 self.assertEqual(speaking.in_bytes("words", grammar.lines_in("words", text), begin), records)
 

@@ -126,7 +126,7 @@ class Building(DeskTest):
         """A desk that is ended while the library is built ends tools/prove too."""
         for number, status in ((signal.SIGTERM, 143), (signal.SIGINT, 130), (signal.SIGHUP, 129)):
             with self.subTest(signal=number):
-                self.prove("trap 'echo ended >> end; exit 1' TERM; touch begun; for i in 1 2 3 4 5; do sleep 1; done")
+                self.prove("trap 'echo ended >> end; exit 1' TERM; touch begun; while sleep 0.1; do :; done")
                 process = subprocess.Popen([sys.executable, str(self.folder / "desk"), "run", "-"], cwd=self.folder,
                                            stdin=subprocess.DEVNULL, stdout=subprocess.PIPE, stderr=subprocess.PIPE,
                                            env=environment())
