@@ -47,11 +47,16 @@ def is_fresh() -> bool:
     """True if nothing that the library is made from is younger than it, so that nobody needs to be asked."""
     try:
         made = SHARED.stat().st_mtime
-        folders = [folder for folder, _, _ in os.walk(ROOT / "crates")]
-        files = [entry for folder in folders for entry in os.scandir(folder)]
-        return all(entry.stat().st_mtime <= made for entry in [*files, ROOT / "crates.txt"])
+        return (ROOT / "crates.txt").stat().st_mtime <= made and not has_younger(str(ROOT / "crates"), made)
     except OSError:
         return False
+
+
+def has_younger(folder: str, made: float) -> bool:
+    """True if something in a folder is younger than a time."""
+    with os.scandir(folder) as entries:
+        return any(entry.stat().st_mtime > made or entry.is_dir() and has_younger(entry.path, made)
+                   for entry in entries)
 
 
 def prove() -> int:
