@@ -33,8 +33,9 @@ def deed(before: Club, after: Club, record: bytes, cited: int) -> str:
     kind, fields = numbers.taken_apart(record)
     called = after.called
     if kind == "MAKE":
-        place, sort, name = fields["place"], numbers.SORTS[fields["sort"]], after.names.name(fields["place"])
-        return f"{f'{sort} {name}' if name else f'a {sort}'} is object {place} in {called(fields['group'])}"
+        place, sort, name = fields["place"], fields["sort"], after.names.name(fields["place"])
+        made = f"{numbers.SORTS[sort]} {name}" if name else numbers.sort_in_words(sort)
+        return f"{made} is object {place} in {called(fields['group'])}"
     if kind == "PUT":
         return f"{called(fields['object'])} is in {called(fields['group'])}"
     if kind == "TAKE":

@@ -83,6 +83,11 @@ def word_of(code: int) -> str:
     return "done" if code == DONE else REFUSALS[code].word
 
 
+def sort_in_words(sort: int) -> str:
+    """What an object of a sort is."""
+    return SORTS[sort] if sort == GEAR else f"a {SORTS[sort]}"
+
+
 def operation_name(operation: int) -> str:
     """An operation by its name, or by its number where it has none."""
     return OPERATIONS[operation] if operation < len(OPERATIONS) else str(operation)

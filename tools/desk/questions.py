@@ -121,7 +121,7 @@ def who_data(club: Club, which: int) -> Data:
 def who_lines(club: Club, which: int) -> List[str]:
     """The same in words."""
     said = club.all_called
-    lines = [f"{club.called(which)} is {numbers.SORTS[club.sort(which)]}, object {which}",
+    lines = [f"{club.called(which)} is {numbers.sort_in_words(club.sort(which))}, object {which}",
              f"is directly in: {said(club.direct_groups(which))}", f"is under: {said(under(club, which))}"]
     if club.sort(which) != numbers.MEMBER:
         return lines + [f"under it: {said(below(club, which))}"]

@@ -187,7 +187,7 @@ class Cards(DeskTest):
         """Every question can be asked of a card."""
         self.desk("save", CLUB, "club.card", status=0)
         self.assertIn("member8 on gear4: listen", self.desk("may", "--card", "club.card", status=0).out)
-        self.assertIn("member6 is member, object 6", self.desk("who", "--card", "club.card", "member6", status=0).out)
+        self.assertIn("member6 is a member, object 6", self.desk("who", "--card", "club.card", "member6", status=0).out)
         ended = self.desk("what-if", "--card", "club.card", "member6 PUT 6 into group2", status=1)
         self.assertIn("refused, 10 own gain", ended.out)
         self.assertIn('label="member6"', self.desk("draw", "--card", "club.card", status=0).out)

@@ -109,7 +109,7 @@ class AtTheTerminal(DeskTest):
                       terminal.answer("founder MAKE member ann in club"))
         self.assertIn("standard input:2:13: no object is called 'anm'", terminal.answer("founder PUT anm into club"))
         self.assertIn("record 1: refused, 8 already so", terminal.answer("founder PUT ann into club"))
-        self.assertIn("ann is member, object 2\r\n", terminal.answer("who ann"))
+        self.assertIn("ann is a member, object 2\r\n", terminal.answer("who ann"))
         self.assertIn("nobody may do anything on any gear\r\n", terminal.answer("may"))
         self.assertNotIn("record", terminal.answer("   # nothing"))
         terminal.type("\x04")
@@ -163,7 +163,7 @@ class AtTheTerminal(DeskTest):
         self.assertEqual(terminal.end(), 0)
         self.assertIn("who founder\n", (self.folder / "lines").read_text())
         terminal = self.terminal("--history", "lines")
-        self.assertIn("founder is member", terminal.answer(UP + UP))
+        self.assertIn("founder is a member", terminal.answer(UP + UP))
         terminal.type("quit\n")
         self.assertEqual(terminal.end(), 0)
 

@@ -48,7 +48,7 @@ class Who(DeskTest):
     def test_a_member(self):
         """What he owns, manages, administers and may use, what he is under, and his warrants."""
         self.assertEqual(self.desk("who", CLUB, "bela", status=0).out.splitlines(), [
-            "bela is member, object 7", "is directly in: club", "is under: club", "owns: nothing", "manages: nothing",
+            "bela is a member, object 7", "is directly in: club", "is under: club", "owns: nothing", "manages: nothing",
             "administers: operators, carla, david, emil, frieda over radios, hf, vhf", "may use: nothing",
             "holds the warrants: 2 administrator of operators over radios"])
         lines = self.desk("who", CLUB, "emil", status=0).out.splitlines()
@@ -62,7 +62,7 @@ class Who(DeskTest):
     def test_a_group_and_gear(self):
         """Its sort, what it is under and what is under it."""
         self.assertEqual(self.desk("who", CLUB, "radios", status=0).out.splitlines(), [
-            "radios is group, object 3", "is directly in: club", "is under: club", "under it: hf, vhf"])
+            "radios is a group, object 3", "is directly in: club", "is under: club", "under it: hf, vhf"])
         self.assertEqual(self.desk("who", CLUB, "5", status=0).out.splitlines(), [
             "vhf is gear, object 5", "is directly in: radios", "is under: club, radios", "under it: nothing"])
 
