@@ -1,6 +1,11 @@
 //! The proved board, as `include/selkaum.h` declares it. A slice tells the library where its
 //! bytes are and how many, which is all that it asks of a caller; so the functions here are safe.
 
+mod questions;
+
+pub use crate::question::SET;
+pub use questions::{ask, ask_into, initial_into, lines};
+
 use crate::list::Run;
 use crate::sheet::{Sheet, NO_RULE, PICTURE};
 
@@ -10,10 +15,9 @@ pub const ANSWER: usize = PICTURE + 2;
 /// Length of an answer to a card: the picture of the sheet after, and the code.
 pub const CARD_ANSWER: usize = PICTURE + 1;
 
-/// Length of a set of objects: a bit for each, the lowest first.
-pub const SET: usize = 8;
-
 extern "C" {
+    fn selkaum_initial(policy: *mut u8, policy_len: usize) -> usize;
+
     fn selkaum_judge(
         policy: *const u8,
         policy_len: usize,
@@ -24,6 +28,8 @@ extern "C" {
     ) -> usize;
 
     fn selkaum_report(input: *const u8, input_len: usize, out: *mut u8, out_len: usize) -> usize;
+
+    fn selkaum_lines(input: *const u8, input_len: usize) -> usize;
 
     fn selkaum_run(
         bytes: *const u8,
@@ -47,9 +53,69 @@ extern "C" {
         gain_len: usize,
     ) -> usize;
 
+    fn selkaum_sort(
+        policy: *const u8,
+        policy_len: usize,
+        x: u8,
+        out: *mut u8,
+        out_len: usize,
+    ) -> usize;
+
     fn selkaum_above(
         policy: *const u8,
         policy_len: usize,
+        x: u8,
+        out: *mut u8,
+        out_len: usize,
+    ) -> usize;
+
+    fn selkaum_below(
+        policy: *const u8,
+        policy_len: usize,
+        g: u8,
+        out: *mut u8,
+        out_len: usize,
+    ) -> usize;
+
+    fn selkaum_owned(
+        policy: *const u8,
+        policy_len: usize,
+        u: u8,
+        out: *mut u8,
+        out_len: usize,
+    ) -> usize;
+
+    fn selkaum_managed(
+        policy: *const u8,
+        policy_len: usize,
+        u: u8,
+        out: *mut u8,
+        out_len: usize,
+    ) -> usize;
+
+    fn selkaum_administered(
+        policy: *const u8,
+        policy_len: usize,
+        u: u8,
+        a: u8,
+        out: *mut u8,
+        out_len: usize,
+    ) -> usize;
+
+    fn selkaum_permitted(
+        policy: *const u8,
+        policy_len: usize,
+        u: u8,
+        k: u8,
+        out: *mut u8,
+        out_len: usize,
+    ) -> usize;
+
+    fn selkaum_permitting(
+        policy: *const u8,
+        policy_len: usize,
+        u: u8,
+        k: u8,
         x: u8,
         out: *mut u8,
         out_len: usize,

@@ -11,6 +11,7 @@ pub mod fast;
 pub mod generate;
 pub mod list;
 pub mod plain;
+pub mod question;
 pub mod report;
 pub mod sets;
 pub mod sheet;

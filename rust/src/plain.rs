@@ -3,11 +3,14 @@
 //! after. Speed is no concern here.
 
 pub(crate) mod holdings;
+mod questions;
 mod record;
+
+pub use holdings::Holdings;
 
 use crate::sheet::*;
 use holdings::{
-    in_use, objects, on_table, rule_in_use, sort_is, stored_in, warrant_in_use, Holdings,
+    in_use, objects, on_table, rule_in_use, set_of, sort_is, stored_in, warrant_in_use,
 };
 use record::{read, Request, Request::*};
 
@@ -60,9 +63,7 @@ pub fn permit_refused(sheet: &Sheet, record: &[u8]) -> Option<(u8, u8)> {
 /// other; for an empty object or a number past the table, the empty set". Bit g is object g.
 pub fn above(sheet: &Sheet, x: u8) -> u64 {
     let under = holdings::all_over(sheet, x);
-    objects()
-        .filter(|&g| under[g as usize])
-        .fold(0, |set, g| set | 1 << g)
+    set_of(|g| under[g as usize])
 }
 
 /// The twelve checks in order: the sheet after and the cited rule, or the first refusal.

@@ -34,6 +34,13 @@ pub fn objects() -> std::ops::Range<u8> {
     0..OBJECTS as u8
 }
 
+/// The set of the objects that are wanted: bit x is object x.
+pub fn set_of(wanted: impl Fn(u8) -> bool) -> u64 {
+    objects()
+        .filter(|&x| wanted(x))
+        .fold(0, |set, x| set | 1 << x)
+}
+
 /// A sheet with its reach worked out: it answers who owns, manages, administers, may use.
 pub struct Holdings {
     pub sheet: Sheet,
@@ -52,7 +59,7 @@ impl Holdings {
 
     /// "x is under g if x = g or a chain of one or more direct memberships leads from x up to
     /// g." A number outside the table covers nothing.
-    fn under(&self, x: u8, g: u8) -> bool {
+    pub fn under(&self, x: u8, g: u8) -> bool {
         on_table(x, OBJECTS) && on_table(g, OBJECTS) && self.under[x as usize][g as usize]
     }
 
