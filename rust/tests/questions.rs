@@ -1,11 +1,13 @@
 //! The questions about a policy beside the plain judge's own reach and holdings: on sheets of any
 //! value, on lists from the founding, and on sheets drawn by hand with the answers written out;
-//! and what requests get, beside what is told.
+//! what requests get, beside what is told; the sizes of buffers; and the picture of the founding.
 
 #[path = "questions/drawn.rs"]
 mod drawn;
 #[path = "questions/requests.rs"]
 mod requests;
+#[path = "questions/sizes.rs"]
+mod sizes;
 #[path = "questions/stored.rs"]
 mod stored;
 #[path = "questions/told.rs"]
@@ -16,6 +18,9 @@ use beside::question::Question::{self, *};
 use beside::sheet::{GEAR, GROUP, MEMBER, PICTURE};
 use beside::{board, fast};
 use told::Told;
+
+/// What buffers are filled with, to see which bytes are written.
+const PAINT: u8 = 0xa5;
 
 /// The objects of this sort on the sheet of a picture.
 fn of_sort(picture: &[u8; PICTURE], sort: u8) -> Vec<u8> {
