@@ -8,7 +8,7 @@ mod sheets;
 mod streams;
 
 pub use sheets::{picture, picture_of, request, sheet};
-pub use streams::{stream, torn_tail, Profile};
+pub use streams::{framed_garbage, stream, torn_tail, Profile};
 
 /// Splitmix64: small, and the same on every machine.
 pub struct Rng(u64);

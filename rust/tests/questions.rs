@@ -1,9 +1,12 @@
 //! The questions about a policy beside the plain judge's own reach and holdings: on sheets of any
 //! value, on lists from the founding, and on sheets drawn by hand with the answers written out;
-//! what requests get, beside what is told; the sizes of buffers; and the picture of the founding.
+//! what requests get, beside what is told; the sizes of buffers; the picture of the founding; and
+//! the lines of a report.
 
 #[path = "questions/drawn.rs"]
 mod drawn;
+#[path = "questions/lines.rs"]
+mod lines;
 #[path = "questions/requests.rs"]
 mod requests;
 #[path = "questions/sizes.rs"]
