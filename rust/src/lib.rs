@@ -2,7 +2,8 @@
 //! the proved board byte for byte. Three judges: `plain` follows the text sentence by sentence;
 //! `sets` is made for speed on 64-bit sets, and works its closure anew for each record; `fast`
 //! works no closure, but searches with wide registers for just what a record needs. `card` saves
-//! a sheet to a card and reads it back, plainly and for speed. `board` is the proved board.
+//! a sheet to a card and reads it back, plainly and for speed. `question` has what can be asked of a
+//! sheet, which `plain` answers too. `board` is the proved board.
 
 pub mod board;
 pub mod card;

@@ -133,17 +133,11 @@ fn several_together() {
     let others = [(1, MEMBER), (5, GEAR), (6, GEAR), (63, GEAR)];
     let stored = [(1, 2), (5, 3), (6, 4), (63, 4), (6, 3)];
     let mut sheet = drawn(&[&groups[..], &others].concat(), &stored);
-    for (place, group) in [(0, 3), (31, 4)] {
-        for (kind, first) in [(OWNER, 0), (MANAGER, 1), (ADMINISTRATOR, 2)] {
-            let place = if place == 0 { first } else { place - first };
-            let [a, b] = if kind == ADMINISTRATOR {
-                [2, group]
-            } else {
-                [group, 0]
-            };
-            sheet.warrants[place] = warrant(kind, 1, a, b);
-        }
-        sheet.rules[2 * place + 1] = rule(2, group, 1);
+    for (place, group) in [(0, 3), (29, 4)] {
+        sheet.warrants[place] = warrant(OWNER, 1, group, 0);
+        sheet.warrants[place + 1] = warrant(MANAGER, 1, group, 0);
+        sheet.warrants[place + 2] = warrant(ADMINISTRATOR, 1, 2, group);
+        sheet.rules[place + 1] = rule(2, group, 0b1);
     }
     let sheet = Asked::of(&sheet.picture());
     assert_set(&sheet, Owned { u: 1 }, &[3, 4, 5, 6, 63]);
@@ -151,7 +145,7 @@ fn several_together() {
     assert_set(&sheet, Administered { u: 1, a: 1 }, &[3, 4, 5, 6, 63]);
     assert_set(&sheet, Permitted { u: 1, k: 0 }, &[5, 6, 63]);
     assert_eq!(sheet.ask(Permitting { u: 1, k: 0, x: 6 }), 1);
-    assert_eq!(sheet.ask(Permitting { u: 1, k: 0, x: 63 }), 63);
+    assert_eq!(sheet.ask(Permitting { u: 1, k: 0, x: 63 }), 30);
 }
 
 /// Of several rules that permit, the lowest place is told.
