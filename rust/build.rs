@@ -1,4 +1,4 @@
-//! Links the proved board: the static library that `rt staticlib export` writes for C and Rust.
+//! Links the proved board: the static library that `tools/prove library` writes for C and Rust.
 //! If the program is built too, `cfg(runner)` is set, and a test runs it.
 
 use std::path::Path;
@@ -17,7 +17,7 @@ fn main() {
     }
     if !library.is_file() {
         println!(
-            "cargo::error={} is missing: run `rt staticlib export` in the repository's root first",
+            "cargo::error={} is missing: run `tools/prove library` in the repository's root first",
             library.display()
         );
         return;

@@ -37,7 +37,6 @@ SIGNATURES = {
     "managed": LENT + BYTE + LENT,
     "administered": LENT + BYTE * 2 + LENT,
     "permitted": LENT + BYTE * 2 + LENT,
-    "permitting": LENT + BYTE * 3 + LENT,
     "write_card": LENT * 3,
     "read_card": LENT * 3,
 }
