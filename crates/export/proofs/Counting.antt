@@ -3,12 +3,12 @@ use mathlib.Core.Path.{_≡_, sym, _∙_}
 use Prim.Native.Nat.{ℕ, _^_, _<_}
 use native.Mathlib.Omega.{arith}
 use lib.ListN.{length}
-use Rattle.frame.specs.Reading.{linesOf}
+use Rattle.frame.specs.Reading.{stepsOf}
 use Rattle.text.specs.Text.{Bytes}
 use Rattle.list.proofs.Lining.{report-room, report-feeds, report-cut}
 use Rattle.export.specs.Counted.{LinesTold}
 
-pub lines-told : (input : Bytes) (r : ℕ) → length input < 2 ^ 64 → r ≡ linesOf input → LinesTold input r
+pub lines-told : (input : Bytes) (r : ℕ) → length input < 2 ^ 64 → r ≡ stepsOf input → LinesTold input r
 lines-told input r h e =
     record {
       count = e;

@@ -16,7 +16,7 @@ mod questions;
 mod reading;
 
 use drawing::put_policy;
-use frame::count_lines;
+use frame::count_steps;
 use gains::Gain;
 use judge::cited_of;
 use judge::code_of;
@@ -52,7 +52,7 @@ pub extern "C" fn selkaum_report(input: &[u8], out: &mut [u8]) -> usize
 pub extern "C" fn selkaum_lines(input: &[u8]) -> usize
     ensures { λ r. ⌜ LinesTold (now (input .entry)) r ⌝ }
 {
-    count_lines(input)
+    count_steps(input)
 }
 
 // Judges one record on the policy of a picture: the picture after it, the code and the cited rule, 962 bytes, go into the answer, and the

@@ -56,9 +56,9 @@ recordsFrom b at = recordsWithin (length b) b at
 unfoldable pub tornFrom : List ℕ → ℕ → Bool
 tornFrom b at = tornWithin (length b) b at
 
--- How many answers the bytes have: one for each record, and one for a torn place behind them. Each is a line of the report.
-abbrev pub linesOf : List ℕ → ℕ
-linesOf b = length (recordsFrom b 0) + cond (tornFrom b 0) 1 0
+-- How many steps the reader makes before it stops: one for each record, and one for a torn place behind them.
+abbrev pub stepsOf : List ℕ → ℕ
+stepsOf b = length (recordsFrom b 0) + cond (tornFrom b 0) 1 0
 
 -- The reader of some bytes at a position.
 abbrev pub readerAt : RefT (List ℕ) → ℕ → Reader

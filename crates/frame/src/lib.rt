@@ -1,7 +1,7 @@
 // Records in bytes: the fields that every record begins with, and the reader that finds one record after the other.
 mod reading;
 
-pub use reading::count_lines;
+pub use reading::count_steps;
 pub use reading::read_after;
 pub use reading::read_at;
 ghost use mathlib.Core.Path.{_≡_};

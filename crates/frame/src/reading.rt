@@ -1,7 +1,7 @@
 // A reader over lent bytes gives record after record. The work is done on plain slices; the reader's own functions are
 // thin.
 ghost use mathlib.Core.Path.{_≡_};
-ghost use Rattle.frame.specs.Reading.{torn, stepAt, placeAfter, readerAt, readerAfter, linesOf};
+ghost use Rattle.frame.specs.Reading.{torn, stepAt, placeAfter, readerAt, readerAfter, stepsOf};
 use crate::Reader;
 use crate::Step;
 use crate::length_field;
@@ -88,9 +88,9 @@ pub fn read_after(bytes: &[u8], at: usize) -> usize
     Reader::new(bytes, at).after().at
 }
 
-// How many records stand in the bytes, one behind the other, and one more for a torn place.
-pub fn count_lines(bytes: &[u8]) -> usize
-    ensures { λ r. ⌜ r ≡ linesOf (now (bytes .entry)) ⌝ }
+// How many steps a reader makes before it stops: one for each record, and one for a torn place behind them.
+pub fn count_steps(bytes: &[u8]) -> usize
+    ensures { λ r. ⌜ r ≡ stepsOf (now (bytes .entry)) ⌝ }
 {
     let mut at: usize = 0;
     let mut n: usize = 0;

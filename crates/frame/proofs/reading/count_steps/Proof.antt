@@ -1,4 +1,4 @@
--- `count_lines` counts a line for each record that the reader finds, and one for a torn place: its loop keeps `Counting`.
+-- `count_steps` counts one for each record that the reader finds, and one for a torn place: its loop keeps `Counting`.
 use mathlib.Core.Path.{_≡_, sym, _∙_}
 use mathlib.Core.List.{List}
 use Prim.Native.Nat.{ℕ, _-_, _<_, _^_}
@@ -8,10 +8,10 @@ use denote.Ref.{now}
 use Rattle.frame.specs.declared.Step.the-variants.{Record, Torn}
 use Rattle.frame.specs.Reading.{stepAt}
 use Rattle.frame.proofs.Steps.{step-record}
-use Rattle.frame.proofs.Counting.{Counting, counting-start, counting-record, counting-more, counting-torn, counting-end, lines-few}
+use Rattle.frame.proofs.Counting.{Counting, counting-start, counting-record, counting-more, counting-torn, counting-end, steps-few}
 use borrow.Author.Needs.{needs}
-use Rattle.frame.proofs.reading.count_lines.Statement.{statement}
-use Rattle.frame.proofs.reading.count_lines.Tie as tie
+use Rattle.frame.proofs.reading.count_steps.Statement.{statement}
+use Rattle.frame.proofs.reading.count_steps.Tie as tie
 
 abbrev Inv-loop : tie.InvT-loop
 Inv-loop bytes at₀ n₀ at n = Counting bytes at n
@@ -56,7 +56,7 @@ torn-at c = sym (c .before .before .read-at .ensures) ∙ c .enum-told .given .1
 add-result : tie.Need-add-result Inv-loop μ-loop
 add-result c =
     let at-most : length (torn-in c) < 2 ^ 64 = search needs in
-    record { fits = omega (arith, at-most, lines-few (torn-in c), counting-torn _ (c .before .before .before .loop .inv) (torn-at c)) }
+    record { fits = omega (arith, at-most, steps-few (torn-in c), counting-torn _ (c .before .before .before .loop .inv) (torn-at c)) }
 
 returns : tie.Need-returns Inv-loop μ-loop
 returns c = omega (arith, counting-torn _ (c .before .before .before .loop .inv) (torn-at c))
@@ -65,8 +65,8 @@ returns-2 : tie.Need-returns-2 Inv-loop μ-loop
 returns-2 c =
     counting-end _ (c .before .before .before .loop .inv) (sym (c .before .before .read-at .ensures) ∙ c .enum-told2 .given .1)
 
-pub count-lines-spec : {M : Type 1} → statement M
-count-lines-spec =
+pub count-steps-spec : {M : Type 1} → statement M
+count-steps-spec =
     tie.close
     (tie.spec
     Inv-loop
