@@ -103,6 +103,24 @@ def run(club: Club, source: str, items: List[Line], out: Output) -> int:
     return tally.status()
 
 
+def run_silently(club: Club, source: str, items: List[Line]) -> int:
+    """Judges all records of some lines for a question about what they leave. Told is an answer that is not as expected,
+    and how many were refused that were not expected to be."""
+    reading, answered, tally, surprises = Reading(club, source), set(), Tally(), 0
+    for found in (*(reading.take(item) for item in items), reading.end()):
+        for judged in found:
+            answered.add(judged.item.line)
+            tally = tally.with_answer(judged)
+            surprises += judged.answer.code != numbers.DONE and judged.is_expected is None
+            if judged.is_expected is False:
+                differs(source, judged.item, answer_shown(judged.answer))
+    size = sum(grammar.size_of(item) for item in items)
+    tally = tally._replace(differing=tally.differing + unmet(source, items, answered, size))
+    if surprises:
+        complain(f"desk: {source}: {counted(surprises, 'request')} refused; `desk run` tells why")
+    return SOME_REFUSED if surprises or tally.differing else ALL_DONE
+
+
 def tell_end(tally: Tally, torn: Optional[int], out: Output) -> None:
     """Tells the count of all records, and the line where a torn place ended the reading."""
     count = tally.done + tally.refused

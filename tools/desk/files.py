@@ -15,6 +15,7 @@ from desk.library import LARGEST_CARD, Library
 
 MOST_TEXT = 4 << 20
 STANDARD_INPUT = "standard input"
+IN_WORDS = (".club", ".case")  # how the names of files in words end
 UTF8_BOM = b"\xef\xbb\xbf"
 UTF16_BOMS = (b"\xff\xfe", b"\xfe\xff")
 LONE_RETURN = re.compile(rb"\r(?!\n|\Z)")
@@ -109,21 +110,40 @@ def read_card(library: Library, name: str) -> Club:
     return named(library, picture, "on the card")
 
 
-def replace(name: str, data: bytes) -> None:
-    """Writes a new file beside the one of that name, has the system store it, and puts it in its place."""
-    beside = None
+def check_target(name: str) -> None:
+    """A fault if a card may not have this name: it takes the place of a plain file, and of none in words."""
+    if not name:
+        raise Fault("an empty name: there is no such file; expected a name for the card")
+    if os.path.isdir(name):
+        raise Fault(f"{name}: it is a directory; expected a name for the card")
+    if os.path.lexists(name) and not os.path.isfile(name):
+        raise Fault(f"{name}: it is no plain file, so no card takes its place; expected another name")
+    if name.endswith(IN_WORDS):
+        raise Fault(f"{name}: a name that ends so is of a file in words; expected another name for the card")
+
+
+def check_apart(file: str, card: str) -> None:
+    """A fault if a card would take the place of the very file that it is made from."""
     try:
-        if not name:
-            raise Fault("an empty name: there is no such file; expected a name for the file")
-        if os.path.isdir(name):
-            raise Fault(f"{name}: it is a directory; expected a name for the file")
-        folder, base = os.path.split(name)
-        handle, beside = tempfile.mkstemp(prefix=f"{base}.", dir=folder or ".")
+        is_same = file != "-" and os.path.samefile(file, card)
+    except (OSError, ValueError):
+        return
+    if is_same:
+        raise Fault(f"{card}: it is the file that the card is made from; expected another name for the card")
+
+
+def replace(name: str, data: bytes) -> None:
+    """Writes a new file beside the one of that name, has the system store it, and puts it there. A link stays."""
+    beside = None
+    check_target(name)
+    try:
+        folder, base = os.path.split(os.path.realpath(name))
+        handle, beside = tempfile.mkstemp(prefix=f"{base}.", dir=folder)
         with os.fdopen(handle, "wb") as file:
             file.write(data)
             file.flush()
             os.fsync(file.fileno())
-        os.replace(beside, name)
+        os.replace(beside, os.path.join(folder, base))
     except (OSError, ValueError) as error:
         if beside:
             Path(beside).unlink(missing_ok=True)

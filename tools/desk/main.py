@@ -2,16 +2,17 @@
 
 import argparse
 import sys
-from typing import Callable, Dict, List, Optional
+from typing import Callable, Dict, List, Optional, Tuple
 
 from desk import commands, files, grammar, prompt, sentences, speaking
 from desk.club import Club, founded
 from desk.library import Library, opened
 from desk.output import ALL_DONE, Output, complain, guarded
-from desk.running import run
 
 DESCRIPTION = "A club's requests in words, answered in words by the proved board. Without a command: a prompt."
-STATUSES = "Exit status: 0 all done, 1 something refused or not as expected, 2 usage, or an input that can't be read."
+STATUSES = """\
+Exit status: 0 all done, 1 something refused or not as expected, 2 usage, or an input that can't be read. A question
+about a file, and `save`, pass over refusals that the file itself expects behind an arrow."""
 REQUEST = "request"  # what the request of `what-if` is called in messages
 
 
@@ -20,13 +21,11 @@ def start(library: Library, options: argparse.Namespace) -> Club:
     return founded(library) if options.card is None else files.read_card(library, options.card)
 
 
-def club_after(options: argparse.Namespace, name: Optional[str]) -> Club:
-    """The club after a file of requests in words; its answers are not told."""
+def club_after(options: argparse.Namespace, name: Optional[str]) -> Tuple[Club, int]:
+    """The club after a file of requests in words, and the status of that: answers are told where they surprise."""
     items = lines_of(name) if name is not None else []
     club = start(opened(), options)
-    for _ in run(club, files.source_name(name or ""), items):
-        pass
-    return club
+    return club, commands.run_silently(club, files.source_name(name or ""), items)
 
 
 def lines_of(name: str) -> List[grammar.Line]:
@@ -42,29 +41,34 @@ def run_file(options: argparse.Namespace, out: Output) -> int:
 
 def ask_may(options: argparse.Namespace, out: Output) -> int:
     """desk may FILE."""
-    return commands.may(club_after(options, options.file), out)
+    club, status = club_after(options, options.file)
+    return max(status, commands.may(club, out))
 
 
 def ask_show(options: argparse.Namespace, out: Output) -> int:
     """desk show FILE."""
-    return commands.show(club_after(options, options.file), out)
+    club, status = club_after(options, options.file)
+    return max(status, commands.show(club, out))
 
 
 def ask_draw(options: argparse.Namespace, out: Output) -> int:
     """desk draw FILE."""
-    return commands.draw(club_after(options, options.file), options.svg, out)
+    club, status = club_after(options, options.file)
+    return max(status, commands.draw(club, options.svg, out))
 
 
 def ask_who(options: argparse.Namespace, out: Output) -> int:
     """desk who FILE NAME."""
     name = options.words[0] if len(options.words) == 2 else None
-    return commands.who(club_after(options, name), options.words[-1], out)
+    club, status = club_after(options, name)
+    return max(status, commands.who(club, options.words[-1], out))
 
 
 def ask_what_if(options: argparse.Namespace, out: Output) -> int:
     """desk what-if FILE REQUEST; with a card all words are the request."""
     name, words = (options.words[0], options.words[1:]) if options.card is None else (None, options.words)
-    return commands.what_if(club_after(options, name), REQUEST, 1, " ".join(words), out)
+    club, status = club_after(options, name)
+    return max(status, commands.what_if(club, REQUEST, 1, " ".join(words), out))
 
 
 def to_bytes(options: argparse.Namespace, out: Output) -> int:
@@ -92,7 +96,9 @@ def to_words(options: argparse.Namespace, out: Output) -> int:
 
 def save_card(options: argparse.Namespace, out: Output) -> int:
     """desk save FILE CARD."""
-    return commands.save(club_after(options, options.file), options.target, out)
+    files.check_apart(options.file, options.target)
+    club, status = club_after(options, options.file)
+    return max(status, commands.save(club, options.target, out))
 
 
 def open_prompt(options: argparse.Namespace, out: Output) -> int:
@@ -119,7 +125,8 @@ class Parser(argparse.ArgumentParser):
 
 def add_common(parser: argparse.ArgumentParser, default) -> None:
     """The options that every command has."""
-    parser.add_argument("--json", action="store_true", default=default, help="answers as JSON, with numbers and words")
+    parser.add_argument("--json", action="store_true", default=default,
+                        help="answers as JSON, with numbers and words; of `run` a document on each line")
     parser.add_argument("--card", metavar="CARD", default=default, help="begin with the club on this card")
 
 

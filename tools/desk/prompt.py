@@ -127,13 +127,17 @@ class Prompt:
 
 
 def typed_lines() -> Iterator[bytes]:
-    """Lines from a terminal."""
+    """Lines from a terminal. Ctrl-C drops the line that is being typed, and the club stays at hand."""
     while True:
         try:
-            yield input(PROMPT).encode("utf-8", "surrogateescape")
+            line = input(PROMPT)
         except EOFError:
             print()
             return
+        except KeyboardInterrupt:
+            print()
+            continue
+        yield line.encode("utf-8", "surrogateescape")
 
 
 def streamed_lines() -> Iterator[bytes]:

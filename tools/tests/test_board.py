@@ -16,7 +16,7 @@ class Names(StubBoard):
 
     def test_files(self):
         """A name is relative to the caller's folder, and may be any name."""
-        for name in ("-x", "--help", "new\nline", "é", "records.club.bytes"):
+        for name in ("-x", "-", "--help", "new\nline", "é", "records.club.bytes"):
             (self.folder / name).write_bytes(DATA)
             with self.subTest(name):
                 self.assertEqual(self.run_board("--", name), (0, DATA, ""))

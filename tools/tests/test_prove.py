@@ -5,7 +5,7 @@ import signal
 from tests.stub_kit import GOOD, SECONDS, UNCHANGED, WITH_GRANDCHILD, StubKit, lives
 
 FIRST_TIME = "prove: proving and building the board, which takes about three minutes the first time\n"
-WAITING = "prove: another command is proving in this folder; waiting for it to end\n"
+WAITING = "prove: another command is proving or building in this folder; waiting for it to end\n"
 WAIT_FOR_GO = 'while [ ! -e "$STUB/go" ]; do sleep 0.02; done\n'
 
 

@@ -1,6 +1,7 @@
 """The desk beside the board: the same answers on all cases, the same cards, and words that give the records back."""
 
 import json
+import os
 import subprocess
 import sys
 import unittest
@@ -199,6 +200,37 @@ class Cards(DeskTest):
             self.assertTrue(said.endswith("x.card: 13 damaged: it is no card"), said)
         self.assertEqual(self.desk("show", "--card", self.file("x.card", b""), status=0).out,
                          "objects\nwarrants\nrules\n")
+
+    def test_what_a_card_replaces(self):
+        """No FIFO, no device, no file in words and not the file that it is made from; a link stays a link."""
+        fifo, words = self.folder / "fifo", self.file("own.club", "founder MAKE member ann in club\n")
+        os.mkfifo(fifo)
+        self.assertIn("fifo: it is no plain file", self.faulty("save", CLUB, fifo))
+        self.assertTrue(fifo.is_fifo())
+        self.assertIn("own.club: it is the file that the card is made from", self.faulty("save", words, words))
+        self.assertIn("own.club: a name that ends so is of a file in words", self.faulty("save", CLUB, words))
+        plain = self.file("own", words.read_bytes())
+        self.assertIn("own: it is the file that the card is made from", self.faulty("save", plain, plain))
+        self.assertEqual(plain.read_bytes(), words.read_bytes())
+        link, card = self.folder / "link", self.file("old.card", b"old")
+        link.symlink_to("old.card")
+        self.desk("save", CLUB, link, status=0)
+        self.assertTrue(link.is_symlink())
+        self.assertEqual(card.stat().st_size, 208)
+
+    def test_refusals_in_the_file(self):
+        """A refusal that the file does not expect, and an answer that is not the expected one, are told: status 1."""
+        refused = self.file("refused.club", "founder PUT founder into club\n")
+        expected = self.file("expected.club", "founder PUT founder into club  -> already so\n")
+        other = self.file("other.club", "founder MAKE member ann in club  -> own gain\n")
+        for words in (("may",), ("show",), ("draw",)):
+            with self.subTest(words=words):
+                self.assertIn("refused.club: 1 request refused", self.desk(*words, refused, status=1).err)
+                self.assertEqual(self.desk(*words, expected, status=0).err, "")
+                self.assertIn("came 0 255 (done); expected 10 255 (own gain)", self.desk(*words, other, status=1).err)
+        self.assertIn("1 request refused", self.desk("who", refused, "founder", status=1).err)
+        self.assertIn("1 request refused", self.desk("save", refused, "x.card", status=1).err)
+        self.assertEqual((self.folder / "x.card").stat().st_size, 27)
 
     def test_saving_fails(self):
         """An old card stays, and nothing is left beside it, where the new one can't be written or made."""

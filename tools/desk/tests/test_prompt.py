@@ -66,16 +66,6 @@ class Terminal:
         self.type(line + "\n")
         return self.read(PROMPT)
 
-    def interrupt(self) -> None:
-        """Types Ctrl-C until it has ended: Python may miss one that comes just before it waits for a line."""
-        for _ in range(2 * SECONDS):
-            self.type("\x03")
-            try:
-                self.process.wait(0.5)
-                return
-            except subprocess.TimeoutExpired:
-                pass
-
     def end(self) -> int:
         """The exit status, once it has ended by itself; else it is ended."""
         try:
@@ -115,13 +105,21 @@ class AtTheTerminal(DeskTest):
         terminal.type("\x04")
         self.assertEqual(terminal.end(), 2)
 
-    def test_statuses(self):
-        """0 if all is done, 1 if something was refused, 130 for Ctrl-C."""
+    def test_interrupted(self):
+        """Ctrl-C drops the line that is being typed, and the club stays."""
         terminal = self.terminal()
-        terminal.answer("show")
-        terminal.interrupt()
-        self.assertEqual(terminal.end(), 130)
+        terminal.answer("founder MAKE member ann in club")
+        terminal.type("founder PUT ann in")
+        terminal.read("founder PUT ann in")
+        terminal.type("\x03")
+        terminal.read(PROMPT)
+        self.assertIn("ann is a member, object 2\r\n", terminal.answer("who ann"))
+        terminal.type("\x04")
+        self.assertEqual(terminal.end(), 0)
         self.assertNotIn("Traceback", terminal.said)
+
+    def test_statuses(self):
+        """0 if all is done, 1 if something was refused."""
         for lines, last, status in (((), "quit\n", 0), (("founder MAKE member a in club",), "\x04", 0),
                                     (("founder PUT founder into club",), "quit\n", 1)):
             with self.subTest(lines=lines):
