@@ -1,4 +1,7 @@
 // A USE that comes as numbers and not as a record: the judge is asked.
+
+#![tactic(auto)]
+
 ghost use Rattle.std.specs.Prelude.{◌≡◌};
 ghost use Rattle.access.specs.Using.{use_code};
 

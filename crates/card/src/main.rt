@@ -1,6 +1,9 @@
 // The program for cards: `card save NAME` writes the policy that the requests on standard input leave from the founding to the file NAME, and
 // `card load NAME` judges standard input from the policy of that file. No contract can say what is read and written: what is proved are the
 // functions between.
+
+#![tactic(auto)]
+
 mod files;
 mod texts;
 
@@ -9,7 +12,7 @@ use libc::{STDERR_FILENO, STDOUT_FILENO};
 use texts::{load_and_judge, save_list};
 
 // What is saved: whether there is a card, its length, and that of the line to print.
-#[derive(Drop)]
+#[derive(Clone, Copy)]
 pub struct Saved {
     pub fits: bool,
     pub length: usize,
@@ -17,14 +20,14 @@ pub struct Saved {
 }
 
 // What is printed when a card is loaded: the lengths of the first line and of the text behind it.
-#[derive(Drop)]
+#[derive(Clone, Copy)]
 pub struct Told {
     pub head: usize,
     pub text: usize,
 }
 
 // Whether a file was read, and how many bytes it gave.
-#[derive(Drop)]
+#[derive(Clone, Copy)]
 pub struct Fetched {
     pub is_read: bool,
     pub count: usize,

@@ -1,5 +1,8 @@
 // Selkaum for C and Rust: the entry points of a static library. No function asks anything of its caller beyond buffers that are there and
 // do not overlap.
+
+#![tactic(auto)]
+
 ghost use Rattle.frame.specs.Reading.{records_from};
 ghost use Rattle.text.specs.Text.{Printed};
 ghost use Rattle.list.specs.Parts.{handed};

@@ -1,4 +1,7 @@
 // Records in bytes: the fields that every record begins with, and the reader that finds one record after the other.
+
+#![tactic(auto)]
+
 mod reading;
 
 ghost use Rattle.std.specs.Prelude.{◌≡◌};
@@ -7,7 +10,7 @@ ghost use Rattle.frame.specs.Fields.{byte, little_endian, length_field, kind_fie
 pub use reading::{count_steps, read_after, read_at};
 
 // What stands at a position of bytes: a whole record, with the place after it; a torn place; or the end.
-#[derive(Drop)]
+#[derive(Clone, Copy)]
 pub enum Step {
     Record {
         start: usize,
@@ -19,7 +22,7 @@ pub enum Step {
 }
 
 // Lent bytes and a position in them.
-#[derive(Drop)]
+#[derive(Clone, Copy)]
 pub struct Reader<'a> {
     pub bytes: &'a [u8],
     pub at: usize,

@@ -11,7 +11,7 @@ use reach::{Appointment, has, just, only_if};
 use rules::Verdict;
 
 // Who holds something above the object, and who holds something above the group, as sets.
-#[derive(Drop)]
+#[derive(Clone, Copy)]
 struct Who {
     object: u64,
     group: u64,

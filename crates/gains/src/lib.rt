@@ -1,5 +1,8 @@
 // Checks 10 and 11: what a request would give its sender, and hand over to others; of a PUT with checks 8 and 9. What one holds is closed
 // downward, so that a PUT is judged by what its two objects are under; only a permission is searched for, target by target.
+
+#![tactic(auto)]
+
 mod granting;
 mod handing;
 mod opening;
@@ -12,7 +15,7 @@ pub use putting::put_verdict;
 pub use searching::gained;
 
 // A permission that is gained, target and operation, or none.
-#[derive(Drop)]
+#[derive(Clone, Copy)]
 pub enum Gain {
     Permission(u8, u8),
     Nothing,

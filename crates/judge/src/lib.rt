@@ -1,4 +1,7 @@
 // The judge: one request on one policy, answered as the crate `rules` says.
+
+#![tactic(auto)]
+
 ghost use Rattle.std.specs.Prelude.{◌≡◌, false};
 ghost use Rattle.reach.specs.declared.Policy.{Policy};
 ghost use Rattle.reach.specs.Tests.{◌⇒◌∥◌};
@@ -34,7 +37,7 @@ use rules::{Answer, Request, Verdict};
 use using::used;
 
 // Who sends a record, what it asks for, what stands at the place that it names, and what the first seven checks say of it.
-#[derive(Drop)]
+#[derive(Clone, Copy)]
 struct Asked {
     sender: u8,
     request: Request,
@@ -43,7 +46,7 @@ struct Asked {
 }
 
 // What is decided on a record: who sends it, what it asks for, and the verdict.
-#[derive(Drop)]
+#[derive(Clone, Copy)]
 pub struct Decision {
     pub sender: u8,
     pub request: Request,

@@ -10,7 +10,7 @@ use rules::Request;
 
 // What stands at the place that a request names: an appointment and a rule, whichever the request is about, and whether the place that it is
 // to fill is in use.
-#[derive(Drop)]
+#[derive(Clone, Copy)]
 pub struct Named {
     pub appointment: Appointment,
     pub rule: AccessRule,

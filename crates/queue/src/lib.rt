@@ -1,5 +1,8 @@
 // Turns at one radio: one holds it, and up to eight wait, first come first served. The line is one record that stays in
 // its place: it is lent to each event, which alters it or leaves it as it was.
+
+#![tactic(auto)]
+
 ghost use Rattle.std.specs.Prelude.{◌≡◌};
 ghost use Rattle.queue.specs.Stored.{start, after_join, after_leave, after_tick};
 ghost use Rattle.queue.specs.Wait.{WaitBoundFrom};
@@ -11,7 +14,7 @@ use reach::Policy;
 
 // The record of a waiting line. Any value is legal: one that says no sound line counts as an empty line with the radio
 // free.
-#[derive(Drop)]
+#[derive(Clone, Copy)]
 pub struct Queue {
     // The radio, and N, the ticks of a turn as they were given; set at the start.
     pub gear: u8,
@@ -27,7 +30,7 @@ pub struct Queue {
 }
 
 // The record after a join, and its number: 0 for an accepted one.
-#[derive(Drop)]
+#[derive(Clone, Copy)]
 pub struct Joined {
     pub queue: Queue,
     pub code: u8,

@@ -6,7 +6,7 @@ ghost use Rattle.queue.specs.Stored.{fit};
 ghost use Rattle.queue.specs.Rows.{row_of, row_add};
 
 // How many wait, and who; the places behind them are 0.
-#[derive(Drop)]
+#[derive(Clone, Copy)]
 pub struct Row {
     pub count: u8,
     pub waiting: [u8; 8],

@@ -10,14 +10,14 @@ use queue::Queue;
 use reach::Policy;
 
 // The policy, and the line at the radio.
-#[derive(Drop)]
+#[derive(Clone, Copy)]
 pub struct Club {
     pub policy: Policy,
     pub queue: Queue,
 }
 
 // What a record leaves, and what is told of it: after an event the code and the line, else the code and the cited rule.
-#[derive(Drop)]
+#[derive(Clone, Copy)]
 pub struct Told {
     pub club: Club,
     pub event: bool,

@@ -1,6 +1,9 @@
 // The program: turns at one radio. It reads records from standard input, document 01's and four kinds of its own (32
 // START, 33 JOIN, 34 LEAVE, 35 TICK), and prints what each does. No contract can say what is read and written: what is
 // proved is the function between the two.
+
+#![tactic(auto)]
+
 ghost use Rattle.std.specs.Prelude.{◌≡◌, ◌≤◌, length, take};
 ghost use Rattle.text.specs.Text.{Printed};
 ghost use Rattle.queue_run.specs.Program.{founding};

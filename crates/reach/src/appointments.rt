@@ -97,7 +97,7 @@ pub fn covers_pair(appointments: [Appointment; 32], u: u8, first: u64, second: u
 }
 
 // What u's appointments give him: what he is appointed over, as an owner and as a manager, and whether an administrator's one covers a pair.
-#[derive(Drop)]
+#[derive(Clone, Copy)]
 pub struct Given {
     pub owner: u64,
     pub manager: u64,

@@ -1,5 +1,8 @@
 // Reach and privileges: the policy (document 01's sheet), who is under which group, who holds what, and the policy after each
 // accepted change. Nothing here knows a byte of a request or a refusal's number.
+
+#![tactic(auto)]
+
 mod appointments;
 mod climbing;
 mod objects;
@@ -19,7 +22,7 @@ pub use rounds::not_under;
 pub use sets::{has, just, only_if};
 
 // Document 01's warrant: kind 1 owner, 2 manager, 3 administrator; any other kind is an empty place.
-#[derive(Drop)]
+#[derive(Clone, Copy)]
 pub struct Appointment {
     pub kind: u8,
     pub holder: u8,
@@ -28,7 +31,7 @@ pub struct Appointment {
 }
 
 // Document 01's rule. An empty place has used false, whatever else it holds.
-#[derive(Drop)]
+#[derive(Clone, Copy)]
 pub struct AccessRule {
     pub used: bool,
     pub users: u8,
@@ -38,7 +41,7 @@ pub struct AccessRule {
 
 // Document 01's sheet. Row x of memberships is the set of the groups that x is stored as directly in: bit g is group g.
 // Any value is legal.
-#[derive(Drop)]
+#[derive(Clone, Copy)]
 pub struct Policy {
     pub sorts: [u8; 64],
     pub memberships: [u64; 64],
@@ -47,14 +50,14 @@ pub struct Policy {
 }
 
 // A place of a table, or none.
-#[derive(Drop)]
+#[derive(Clone, Copy)]
 pub enum Place {
     At(u8),
     Nothing,
 }
 
 // The objects in use, and those of each sort, as sets.
-#[derive(Drop)]
+#[derive(Clone, Copy)]
 pub struct Masks {
     pub objects: u64,
     pub groups: u64,
@@ -63,28 +66,28 @@ pub struct Masks {
 }
 
 // What a user is appointed over: the As of his owner's appointments, and of his manager's, as sets.
-#[derive(Drop)]
+#[derive(Clone, Copy)]
 pub struct Posts {
     pub owner: u64,
     pub manager: u64,
 }
 
 // Of administrator's appointments, the As whose B is in some set, and the Bs whose A is in it, as sets.
-#[derive(Drop)]
+#[derive(Clone, Copy)]
 pub struct Sides {
     pub first: u64,
     pub second: u64,
 }
 
 // Whether a user owns an object, and whether he manages it.
-#[derive(Drop)]
+#[derive(Clone, Copy)]
 pub struct Over {
     pub owned: bool,
     pub managed: bool,
 }
 
 // What a user holds over two objects, and over the pair of them, and whether the one is directly in the other.
-#[derive(Drop)]
+#[derive(Clone, Copy)]
 pub struct Held {
     pub first: Over,
     pub second: Over,
@@ -93,7 +96,7 @@ pub struct Held {
 }
 
 // What a user is appointed over, all that each of two objects is under, and whether the one is directly in the other.
-#[derive(Drop)]
+#[derive(Clone, Copy)]
 pub struct Placing {
     pub posts: Posts,
     pub first: u64,

@@ -7,7 +7,7 @@ use crate::Appointment;
 use crate::appointments::owners_from;
 
 // The groups that are found owned, and the objects in use that are not found owned yet, as sets.
-#[derive(Drop)]
+#[derive(Clone, Copy)]
 struct Found {
     groups: u64,
     left: u64,

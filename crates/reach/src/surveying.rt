@@ -8,7 +8,7 @@ use crate::sets::{joined, mark};
 use crate::{Masks, Policy};
 
 // The objects of each sort among 32, as sets.
-#[derive(Drop)]
+#[derive(Clone, Copy)]
 struct Half {
     groups: u32,
     users: u32,

@@ -1,5 +1,8 @@
 // Prints reach and privileges after a fixed script of changes. tools/reach_by_hand.py works the same lines by another route, from
 // the words of document 01 alone; what it prints is the file stdout that this program is held to.
+
+#![tactic(auto)]
+
 mod above;
 mod administered;
 mod held;

@@ -1,9 +1,12 @@
 // The rules of the judge: what a record asks for, who may send what, what each request does, and when the board says no. The rules
 // themselves stand in specs/, and what follows from them in proofs/; here are the types that they speak of, and no code.
+
+#![tactic(auto)]
+
 use reach::Policy;
 
 // A request as it is decoded, its sender aside; the fields are document 01's, in its order.
-#[derive(Drop)]
+#[derive(Clone, Copy)]
 pub enum Request {
     Make {
         place: u8,
@@ -45,7 +48,7 @@ pub enum Request {
 
 // The answer to a request: done, done by the rule at a place (an accepted USE), or one of the twelve refusals in the order of
 // document 01's table.
-#[derive(Drop)]
+#[derive(Clone, Copy)]
 pub enum Verdict {
     Done,
     DoneBy(u8),
@@ -64,7 +67,7 @@ pub enum Verdict {
 }
 
 // The policy after a request, and the verdict on it.
-#[derive(Drop)]
+#[derive(Clone, Copy)]
 pub struct Answer {
     pub policy: Policy,
     pub verdict: Verdict,

@@ -1,5 +1,8 @@
 // The program: reads requests from standard input, and prints what the board makes of them. No contract can say what is read and
 // written: what is proved is the function between the two.
+
+#![tactic(auto)]
+
 ghost use Rattle.std.specs.Prelude.{◌≡◌, ◌≤◌, length, take};
 ghost use Rattle.frame.specs.Reading.{records_from};
 ghost use Rattle.list.specs.Report.{output, too_long};

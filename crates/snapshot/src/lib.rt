@@ -1,4 +1,7 @@
 // A policy on a card: the writer and the reader of its file.
+
+#![tactic(auto)]
+
 mod entries;
 mod reading;
 mod writing;
@@ -11,7 +14,7 @@ pub use reading::read_card;
 pub use writing::write_card;
 
 // One record of a card, with its fields in document 02's order, or an empty place, which has none.
-#[derive(Drop)]
+#[derive(Clone, Copy)]
 pub enum Entry {
     Object(u8, u8),
     Membership(u8, u8),
@@ -21,7 +24,7 @@ pub enum Entry {
 }
 
 // How a card was written or read.
-#[derive(Drop)]
+#[derive(Clone, Copy)]
 pub enum Status {
     Done,
     Damaged,
@@ -29,14 +32,14 @@ pub enum Status {
 }
 
 // What the writer answers: the length of the file, 0 when refused.
-#[derive(Drop)]
+#[derive(Clone, Copy)]
 pub struct Written {
     pub status: Status,
     pub length: usize,
 }
 
 // What the reader answers: the policy of the card, or the one that the board had.
-#[derive(Drop)]
+#[derive(Clone, Copy)]
 pub struct Loaded {
     pub status: Status,
     pub policy: Policy,
@@ -44,7 +47,7 @@ pub struct Loaded {
 
 // How far a file is written: the place of the next byte in the buffer, which is its end once there is no more room, and how many bytes it
 // has so far, with room for them or not.
-#[derive(Drop)]
+#[derive(Clone, Copy)]
 pub struct Pen {
     pub at: usize,
     pub needed: usize,

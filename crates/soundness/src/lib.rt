@@ -1,4 +1,7 @@
 // Sound policies: those that a card can hold, and that two clubs which become one must have.
+
+#![tactic(auto)]
+
 ghost use Rattle.reach.specs.Tests.{Decides};
 ghost use Rattle.reach.specs.Tables.{view};
 ghost use Rattle.soundness.specs.Soundness.{Sound};

@@ -1,5 +1,8 @@
 // Text into a lent buffer: bytes, decimal numbers, lines. Each function writes from n on and answers where the next byte goes. A
 // buffer that is too small gets as much of the text as it has room for.
+
+#![tactic(auto)]
+
 ghost use Rattle.std.specs.Prelude.{[], ◌∷◌};
 ghost use Rattle.text.specs.Text.{Wrote, decimal, line};
 

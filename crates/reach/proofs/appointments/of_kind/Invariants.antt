@@ -1,0 +1,17 @@
+-- After i turns the set has the places below i whose appointment is of that kind.
+use mathlib.Core.Path.{◌≡◌}
+use native.Mathlib.Omega.{arith}
+use Prim.Native.Nat.{◌-◌, ◌≤◌, ◌<◌}
+use lib.ListN.{get_or}
+use Rattle.reach.specs.Words.{SetOf}
+use Rattle.reach.specs.Tables.{no_appointment}
+use Rattle.reach.proofs.Testing.{decides_eqb}
+use Rattle.reach.proofs.WordSets.{set_as, gathered_none, gathered_next}
+use Rattle.std.proofs.Common.{rules}
+use Rattle.reach.proofs.appointments.of_kind.Given as goal
+
+abbrev pub invariant-loop-i : goal.invariant-loop-i
+invariant-loop-i l = (l.i ≤ 32) × SetOf l.set (λ x. (x < l.i) × ((get_or l.appointments x no_appointment).kind ≡ l.kind))
+
+abbrev pub decreases-loop-i : goal.decreases-loop-i
+decreases-loop-i l = 32 - l.i

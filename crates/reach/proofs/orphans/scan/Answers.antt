@@ -1,0 +1,54 @@
+use native.Mathlib.Omega.{arith}
+use mathlib.Core.Logic.{inl, inr, ⊎_elim}
+use Prim.Native.Nat.{◌-◌, ◌≤◌}
+use Rattle.reach.specs.Asking.{UnderSomeBy, Looking}
+use Rattle.reach.proofs.Owning.{in_use_byte, unused_zero, unused_unknown, look_start, look_met, look_not, grown_group, grown_other}
+use Rattle.reach.proofs.Owning.{look_empty, look_left, look_owned, look_over}
+use Rattle.std.proofs.Common.{rules}
+use Rattle.reach.proofs.orphans.scan.Goals as goal
+
+pub loop-x-init : goal.loop-x-init
+loop-x-init c = (search rules, look_start)
+
+pub loop-x-preserved-then-sort-eq0 : goal.loop-x-preserved-then-sort-eq0
+loop-x-preserved-then-sort-eq0 c =
+    let k = c.loop-x.invariant.1 in
+    (search rules, look_empty k (unused_zero _ _ _ c.loop-x-test.true c.if-sort-eq0.true))
+
+pub loop-x-preserved-then-sort-gt3 : goal.loop-x-preserved-then-sort-gt3
+loop-x-preserved-then-sort-gt3 c =
+    let k = c.loop-x.invariant.1 in
+    (search rules, look_empty k (unused_unknown _ _ _ c.loop-x-test.true (omega (arith, c.if-sort-gt3.true))))
+
+pub loop-x-preserved-then-set-x-eq0 : goal.loop-x-preserved-then-set-x-eq0
+loop-x-preserved-then-set-x-eq0 c =
+    let k = c.loop-x.invariant.1 in
+    let low = c.loop-x-test.true in
+    (search rules, look_left k low (in_use_byte _ _ _ low c.if-sort-eq0.false (omega (arith, c.if-sort-gt3.false))) (look_not k _ (omega (arith, c.if-set-x-eq0.true))))
+
+pub loop-x-preserved-then-sort-ne1 : goal.loop-x-preserved-then-sort-ne1
+loop-x-preserved-then-sort-ne1 c =
+    let owned : let l = c.loop-x in
+        UnderSomeBy c.args.sorts.now
+        c.args.memberships.now
+        c.args.set
+        l.x = let low = c.loop-x-test.true in
+        look_met c.loop-x.invariant.1 _ low (in_use_byte _ _ _ low c.if-sort-eq0.false (omega (arith, c.if-sort-gt3.false)))
+        (⊎_elim (λ w. inr w.1.left) (λ w. inl w.left) c.if-memberships-x-eq0.branch) in
+    let k = c.loop-x.invariant.1 in
+    (search rules, look_owned k (grown_other k _ c.if-sort-ne1.true owned))
+
+pub loop-x-preserved : goal.loop-x-preserved
+loop-x-preserved c =
+    let owned : let l = c.loop-x in
+        UnderSomeBy c.args.sorts.now
+        c.args.memberships.now
+        c.args.set
+        l.x = let low = c.loop-x-test.true in
+        look_met c.loop-x.invariant.1 _ low (in_use_byte _ _ _ low c.if-sort-eq0.false (omega (arith, c.if-sort-gt3.false)))
+        (⊎_elim (λ w. inr w.1.left) (λ w. inl w.left) c.if-memberships-x-eq0.branch) in
+    let k = c.loop-x.invariant.1 in
+    (search rules, look_owned k (grown_group k _ c.loop-x-test.true c.if-sort-ne1.false owned))
+
+pub returns : goal.returns
+returns c = let l = c.loop-x in look_over l.invariant.1 (omega (arith, l.invariant.0, c.loop-x-test.false))

@@ -1,0 +1,29 @@
+-- The rounds find all that is under something of the set: the invariant of both loops is `Settling`, and `Sweeping` whatever the policy. A
+-- round makes less of what is left; rounds end because each but the last finds more than was found when it began.
+use native.Mathlib.Omega.{arith}
+use mathlib.Core.Path.{◌≡◌, refl}
+use Prim.Native.Nat.{◌-◌, ◌^◌, ◌<◌}
+use lib.Count.{count_trailing_zeros}
+use Rattle.reach.specs.Words.{bit}
+use Rattle.reach.specs.Surveys.{Whose}
+use Rattle.reach.proofs.Bits.{lowest_bit}
+use Rattle.reach.proofs.WordSets.{set_mask, decides_nonempty}
+use Rattle.reach.proofs.Gathering.{left_less}
+use Rattle.reach.proofs.Settling.{Sweeping, sweep_start, sweep_round, sweep_step, sweep_over}
+use Rattle.reach.proofs.Settling.{Settling, settle_start, settle_round, settle_step, settle_over, settle_end}
+use Rattle.std.proofs.Common.{rules}
+use Rattle.reach.proofs.rounds.descend.Given as goal
+
+abbrev pub invariant-loop-left : goal.invariant-loop-left
+invariant-loop-left l =
+    Sweeping l.m.objects l.done l.found l.left × Whose l.memberships l.m (λ p. Settling p l.set l.done l.found l.left)
+
+abbrev pub decreases-loop-left : goal.decreases-loop-left
+decreases-loop-left l = l.left
+
+abbrev pub invariant-loop-found : goal.invariant-loop-found
+invariant-loop-found l =
+    Sweeping l.m.objects l.done l.found 0 × Whose l.memberships l.m (λ p. Settling p l.set l.done l.found 0)
+
+abbrev pub decreases-loop-found : goal.decreases-loop-found
+decreases-loop-found l = 2 ^ 64 - l.done

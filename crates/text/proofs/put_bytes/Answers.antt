@@ -1,0 +1,18 @@
+use Prim.Native.Nat.{◌-◌}
+use lib.ListN.{length}
+use Rattle.text.proofs.Writing.{Putting, putting_start, putting_step, putting_end}
+use Rattle.std.proofs.Common.{rules}
+use Rattle.text.proofs.put_bytes.Goals as goal
+
+pub loop-i-init : goal.loop-i-init
+loop-i-init c = putting_start _ _ _
+
+pub loop-i-preserved : goal.loop-i-preserved
+loop-i-preserved c =
+    putting_step c.loop-i.invariant c.loop-i-test.true c.put_byte-at.ensures
+
+pub shape_of-out : goal.shape_of-out
+shape_of-out c = c.loop-i.invariant.wrote.length_kept
+
+pub returns : goal.returns
+returns c = putting_end c.loop-i.invariant c.loop-i-test.false
