@@ -15,6 +15,10 @@ use Rattle.reach.proofs.OneBit.{or_is_with, and_is_without}
 use Rattle.std.proofs.Common.{rules}
 use Rattle.reach.proofs.Policy.made.Given as goal
 
+-- The word w without x, as the machine works it.
+abbrev pub masked : ℕ → ℕ → ℕ
+masked x w = bit_and w (2 ^ 64 - 1 - (1 * 2 ^ x) % 2 ^ 64)
+
 abbrev pub invariant-loop-i : goal.invariant-loop-i
 invariant-loop-i l = (l.i ≤ 64) × (l.self ≡ with_members l.initial.self (map_to (masked l.x) l.i l.initial.self.memberships))
 

@@ -10,7 +10,7 @@ pub returns-then-not-user-target : goal.returns-then-not-user-target
 returns-then-not-user-target c =
     permitting_not _ _ _ _
     (sym (askable_by _ _ _ _ _ _ c.sort_in-user.ensures c.sort_in-target.ensures)
-    ∙ not-true _ c.if-not-user-target.true)
+    ∙ c.if-not-user-target.true)
 
 pub returns : goal.returns
 returns c =
@@ -20,4 +20,4 @@ returns c =
     _
     (climbed _ c.climb-targets.ensures)
     (sym (askable_by _ _ _ _ _ _ c.sort_in-user.ensures c.sort_in-target.ensures)
-    ∙ not-false _ c.if-not-user-target.false)
+    ∙ c.if-not-user-target.false)

@@ -12,13 +12,12 @@ pub loop-i-init : goal.loop-i-init
 loop-i-init c = (search rules, gathered_none _, gathered_none _, gathered_none _)
 
 pub loop-i-preserved : goal.loop-i-preserved
-loop-i-preserved c =
-    (
-      search rules,
-      gathered_next _ c.loop-i.invariant.1 c.mark-groups.ensures (decides_number _ _ 1 (omega arith)),
-      gathered_next _ c.loop-i.invariant.2 c.mark-users.ensures (decides_number _ _ 2 (omega arith)),
-      gathered_next _ c.loop-i.invariant.3 c.mark-targets.ensures (decides_number _ _ 3 (omega arith)),
-    )
+loop-i-preserved c = (
+  search rules,
+  gathered_next _ c.loop-i.invariant.1 c.mark-groups.ensures (decides_number _ _ 1 (omega arith)),
+  gathered_next _ c.loop-i.invariant.2 c.mark-users.ensures (decides_number _ _ 2 (omega arith)),
+  gathered_next _ c.loop-i.invariant.3 c.mark-targets.ensures (decides_number _ _ 3 (omega arith)),
+)
 
 pub returns : goal.returns
 returns c =
