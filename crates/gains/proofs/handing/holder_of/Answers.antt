@@ -7,12 +7,8 @@ use Rattle.reach.specs.Words.{bit, has, SetOf}
 use Rattle.reach.proofs.Testing.{decides_at}
 use Rattle.reach.proofs.WordSets.{set_as, set_none, has_decides}
 use Rattle.gains.specs.Lacking.{HolderOf}
-use borrow.Author.Rules.{rules}
-use Rattle.gains.proofs.handing.holder_of.Statement.{statement}
-use Rattle.gains.proofs.handing.holder_of.Tie as tie
-
-returns : tie.Need-returns
-returns c = (set_none (λ u h. c.if1.true h.1.is_kind), set_none (λ u h. c.if1.true h.1.is_kind))
+use Rattle.std.proofs.Common.{rules}
+use Rattle.gains.proofs.handing.holder_of.Goals as goal
 
 -- The set of one, if its A is in the other set.
 holder-if : (w : Appointment) (kind over : ℕ) {s one : ℕ} {t : Bool} → w.kind ≡ kind → t ≡ has over w.a
@@ -25,23 +21,12 @@ holder-if w kind over k e o s =
     (λ u v. let h = o.only u v.1 in (h.0, record { is_kind = k; in_a = d.sound v.0; is_holder = h.1 }))
     (λ u h. (d.complete h.1.in_a, o.all u (h.0, h.1.is_holder)))
 
-returns-2 : tie.Need-returns-2
-returns-2 c =
-    let o = c.before.before in
-    let j = o.before.before in
-    let kind = j.before.if1.false in (
-      holder-if _ _ _ kind o.before.has.ensures j.just.ensures o.only_if.ensures,
-      holder-if _ _ _ kind c.before.has2.ensures j.just.ensures c.only-if2.ensures,
-    )
+pub returns-then-w-kind : goal.returns-then-w-kind
+returns-then-w-kind c = (set_none (λ u h. c.if-w-kind.true h.1.is_kind), set_none (λ u h. c.if-w-kind.true h.1.is_kind))
 
-pub holder-of-spec : {M : Type 1} → statement M
-holder-of-spec =
-    tie.close
-    (tie.spec
-    returns
-    (λ c κs. search rules)
-    (λ c κs. search rules)
-    (λ c κs. search rules)
-    (λ c κs. search rules)
-    (λ c κs. search rules)
-    returns-2)
+pub returns : goal.returns
+returns c =
+    let kind = c.if-w-kind.false in (
+      holder-if _ _ _ kind c.has.ensures c.just-holder.ensures c.only_if.ensures,
+      holder-if _ _ _ kind c.has-2.ensures c.just-holder.ensures c.only_if-2.ensures,
+    )
