@@ -9,9 +9,8 @@ use Rattle.snapshot.specs.declared.Status.TheVariants.{Done, Damaged, Short}
 use Rattle.snapshot.specs.declared.Written.{Written}
 use Rattle.snapshot.specs.Answers.{code_of, Writes}
 use Rattle.snapshot.proofs.Penning.{over_of_penned, length_of_penned}
-use borrow.Author.Rules.{rules}
-use Rattle.snapshot.proofs.writing.write_card.Statement.{statement}
-use Rattle.snapshot.proofs.writing.write_card.Tie as tie
+use Rattle.std.proofs.Common.{rules}
+use Rattle.snapshot.proofs.writing.write_card.Goals as goal
 
 enough : (room n : ℕ) → (room < n → ⊥) → n ≤ room
 enough room n few = omega (arith, few)
@@ -30,47 +29,31 @@ short-of-code {s = Done} is e = absurd (omega (arith, e))
 short-of-code {s = Damaged} is e = absurd (omega (arith, e))
 short-of-code {s = Short} is e = is
 
-returns : tie.Need-returns
-returns c =
-    Writes.damaged (refuted c.before.before.is-sound.ensures (not-true _ c.before.if1.true))
+pub returns-then-not-is_sound : goal.returns-then-not-is_sound
+returns-then-not-is_sound c =
+    Writes.damaged (refuted c.is_sound.ensures c.if-not-is_sound.true)
     (damaged-of-code c.refused.ensures (omega arith)) (search rules)
 
-too-few-requires : tie.Need-too-few-requires
-too-few-requires c κs = c.before.is-sound.ensures.sound (not-false _ c.if1.false)
+pub too_few-requires : goal.too_few-requires
+too_few-requires c = c.is_sound.ensures.sound c.if-not-is_sound.false
 
-returns-2 : tie.Need-returns-2
-returns-2 c =
-    let asked = c.before.before in
+pub returns-then-too_few : goal.returns-then-too_few
+returns-then-too_few c =
     Writes.short
-    (asked.before.before.is-sound.ensures.sound (not-false _ asked.before.if1.false))
-    (asked.too_few.ensures.sound c.before.if2.true)
-    (short-of-code c.refused2.ensures (omega arith))
+    (c.is_sound.ensures.sound c.if-not-is_sound.false)
+    (c.too_few.ensures.sound c.if-too_few.true)
+    (short-of-code c.refused-then-too_few.ensures (omega arith))
     (search rules)
 
-same_length : tie.Need-same-length
-same_length c = c.before.before.pen-card.ensures.wrote.length_kept
+pub shape_of-card : goal.shape_of-card
+shape_of-card c = c.pen_card-pen.ensures.wrote.length_kept
 
-returns-3 : tie.Need-returns-3
-returns-3 c =
-    let penned = c.before.before.pen-card.ensures in
-    let asked = c.before.before.before.before.before in
-    let room = enough _ _ (refuted asked.too_few.ensures c.before.before.before.before.if2.false) in
+pub returns : goal.returns
+returns c =
+    let penned = c.pen_card-pen.ensures in
+    let room = enough _ _ (refuted c.too_few.ensures c.if-too_few.false) in
     Writes.done
-    (asked.before.before.is-sound.ensures.sound (not-false _ asked.before.if1.false))
+    (c.is_sound.ensures.sound c.if-not-is_sound.false)
     room
     (ap (λ (n : ℕ). record { status = Done; length = n }) (length_of_penned penned))
     (over_of_penned penned room)
-
-pub write-card-spec : {M : Type 1} → statement M
-write-card-spec =
-    tie.close
-    (tie.spec
-    (λ c κs. search rules)
-    (λ c κs. search rules)
-    returns
-    too-few-requires
-    (λ c κs. search rules)
-    returns-2
-    (λ c κs. search rules)
-    same_length
-    returns-3)
