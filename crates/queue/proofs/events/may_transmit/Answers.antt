@@ -2,15 +2,11 @@
 use mathlib.Core.Path.{ap, ◌∙◌}
 use Prim.Native.Nat.{ℕ}
 use lib.Dec.{eqb}
-use borrow.Author.Rules.{rules}
+use Rattle.std.proofs.Common.{rules}
 use Rattle.access.proofs.UseTable.{use_permitted}
 use Rattle.queue.specs.Line.{may_transmit}
-use Rattle.queue.proofs.events.may_transmit.Statement.{statement}
-use Rattle.queue.proofs.events.may_transmit.Tie as tie
+use Rattle.queue.proofs.events.may_transmit.Goals as goal
 
-returns : tie.Need-returns
+pub returns : goal.returns
 unfolding may_transmit
 returns c = ap (λ (n : ℕ). eqb n 0) c.refusal.ensures ∙ use_permitted _ _ _ 2
-
-pub may-transmit-spec : {M : Type 1} → statement M
-may-transmit-spec = tie.close (tie.spec (λ c κs. search rules) returns)
