@@ -18,7 +18,7 @@ returns c =
     c.if-policy-ne960.false
     (omega (arith, c.if-answer-lt962.false))
     c.policy_of.ensures
-    c.judge-judged.ensures.0
+    c.judge-judged.ensures.value
     c.put_policy.ensures
     c.code_of.ensures
     c.cited_of.ensures

@@ -17,7 +17,7 @@ returns c =
     c.if-policy-ne960.false
     (omega (arith, c.if-answer-lt961.false))
     c.policy_of.ensures
-    c.read_card-loaded.ensures.0
-    c.read_card-loaded.ensures.1
+    c.read_card-loaded.ensures.reads
+    c.read_card-loaded.ensures.demand3
     c.put_policy.ensures
     c.status_code.ensures

@@ -9,23 +9,26 @@ use Rattle.std.proofs.Common.{rules}
 use Rattle.export.proofs.selkaum_run.Goals as goal
 
 pub returns-then-policy-lt960 : goal.returns-then-policy-lt960
-returns-then-policy-lt960 c = (no_picture _ _ _ _ (omega (arith, c.if-policy-lt960.true)), third _)
+returns-then-policy-lt960 c = record {
+  listed = no_picture _ _ _ _ (omega (arith, c.if-policy-lt960.true));
+  founding_demand3 = third _;
+}
 
 pub returns-then-not-outcome : goal.returns-then-not-outcome
 returns-then-not-outcome c =
-    let left = c.run_list-outcome.ensures.0 in
-    (
-      not_run _ _ _ _ c.run_list-outcome.result (omega (arith, c.if-policy-lt960.false))
-          (run_into (simp (left.codes_written, left.cited_written)) (simp left.outcome)) c.if-not-outcome.true,
-      c.run_list-outcome.ensures.1,
-    )
+    let left = c.run_list-outcome.ensures.run_into in
+    record {
+      listed = not_run _ _ _ _ c.run_list-outcome.result (omega (arith, c.if-policy-lt960.false))
+          (run_into (simp (left.codes_written, left.cited_written)) (simp left.outcome)) (not-true _ c.if-not-outcome.true);
+      founding_demand3 = c.run_list-outcome.ensures.founding_demand3;
+    }
 
 pub returns : goal.returns
 returns c =
-    let left = c.run_list-outcome.ensures.0 in
-    (
-      has_run _ _ _ _ c.run_list-outcome.result (omega (arith, c.if-policy-lt960.false))
-          (run_into (simp (left.codes_written, left.cited_written)) (simp left.outcome)) c.if-not-outcome.false
-          c.put_policy.ensures,
-      c.run_list-outcome.ensures.1,
-    )
+    let left = c.run_list-outcome.ensures.run_into in
+    record {
+      listed = has_run _ _ _ _ c.run_list-outcome.result (omega (arith, c.if-policy-lt960.false))
+          (run_into (simp (left.codes_written, left.cited_written)) (simp left.outcome)) (not-false _ c.if-not-outcome.false)
+          c.put_policy.ensures;
+      founding_demand3 = c.run_list-outcome.ensures.founding_demand3;
+    }

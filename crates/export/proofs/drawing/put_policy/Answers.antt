@@ -8,11 +8,11 @@ use Rattle.export.proofs.drawing.put_policy.Goals as goal
 pub returns : goal.returns
 returns c =
     let sized : Sized c.args.p = record {
-          sorts = search rules;
-          memberships = search rules;
-          appointments = search (rules, length_mapped);
-          rules = search (rules, length_mapped);
-        } in
+      sorts = search rules;
+      memberships = search rules;
+      appointments = search (rules, length_mapped);
+      rules = search (rules, length_mapped);
+    } in
     rw
     (c.put_rules.ensures, c.put_appointments.ensures, c.put_rows.ensures, c.put_sorts.ensures)
     (picture_stored _ sized _)

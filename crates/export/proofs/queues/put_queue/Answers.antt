@@ -10,9 +10,10 @@ pub returns : goal.returns
 unfolding table
 returns c =
     let eight : length c.args.after.queue.waiting ≡ 8 = search rules in
-    let a = c.args in (
-      rw
+    let a = c.args in
+    record {
+      queue_after = rw
           (c.put_four-2.ensures, c.put_four.ensures, c.put_between-2.ensures, c.put_between.ensures)
-          (queue_stored a.queue.now a.after.queue c.requires eight),
-      refl,
-    )
+          (queue_stored a.queue.now a.after.queue c.requires eight);
+      value = refl;
+    }

@@ -13,6 +13,6 @@ returns c =
     (omega (arith, c.if-queue-ne16.false))
     (omega arith)
     (omega arith)
-    c.start-after.ensures.0
-    c.put_queue.ensures.0
-    c.put_queue.ensures.1
+    c.start-after.ensures.value
+    c.put_queue.ensures.queue_after
+    c.put_queue.ensures.value

@@ -24,5 +24,5 @@ returns c =
     c.policy_of.ensures
     c.queue_of.ensures
     (ap (λ q. joined_as q 0) c.ticked_in_place-after.ensures)
-    c.put_queue.ensures.0
-    c.put_queue.ensures.1
+    c.put_queue.ensures.queue_after
+    c.put_queue.ensures.value
