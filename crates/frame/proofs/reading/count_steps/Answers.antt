@@ -1,12 +1,9 @@
-use mathlib.Core.Path.{◌≡◌, sym, ◌∙◌}
-use mathlib.Core.List.{List}
-use Prim.Native.Nat.{ℕ, ◌<◌, ◌^◌}
+use mathlib.Core.Path.{sym}
+use Prim.Native.Nat.{◌<◌, ◌^◌}
 use native.Mathlib.Omega.{arith}
 use lib.ListN.{length}
-use Rattle.frame.specs.declared.Step.TheVariants.{Record, Torn}
-use Rattle.frame.specs.Reading.{step_at}
 use Rattle.frame.proofs.Steps.{step_record}
-use Rattle.frame.proofs.Counting.{Counting, counting_start, counting_record, counting_more, counting_torn, counting_end, steps_few}
+use Rattle.frame.proofs.Counting.{counting_start, counting_record, counting_more, counting_torn, counting_end, steps_few}
 use Rattle.std.proofs.Common.{rules}
 use Rattle.frame.proofs.reading.count_steps.Goals as goal
 

@@ -9,7 +9,6 @@ use lib.ListN.{length, take, drop, length-drop}
 use lib.Seq.{take_all}
 use mir.Syntax.{w64}
 use mir.Val.{Fits}
-use Rattle.std.proofs.Common.{rules}
 use borrow.Author.Tests.{le-leb, lt-leb}
 use Rattle.frame.specs.Fields.{length_field}
 use Rattle.frame.specs.Reading.{torn, step_at}

@@ -1,9 +1,7 @@
 -- The lowest rule with his groups and the groups of x, where there can be a permission at all.
 use mathlib.Core.Path.{sym, ◌∙◌}
-use borrow.Author.Tests.{not-true, not-false}
 use Rattle.reach.proofs.Deciding.{permitting_not}
 use Rattle.reach.proofs.Meeting.{askable_by, climbed, covering_is}
-use Rattle.std.proofs.Common.{rules}
 use Rattle.reach.proofs.Policy.permitting.Goals as goal
 
 pub returns-then-not-user-target : goal.returns-then-not-user-target

@@ -3,7 +3,6 @@ use native.Mathlib.Omega.{arith}
 use Rattle.reach.proofs.Testing.{decides_at, decides_and, decides_number}
 use Rattle.reach.proofs.WordSets.{has_decides}
 use Rattle.reach.proofs.Posting.{first_posted, second_posted}
-use Rattle.std.proofs.Common.{rules}
 use Rattle.reach.proofs.appointments.sides_by.Goals as goal
 
 pub returns : goal.returns

@@ -1,7 +1,6 @@
 use native.Mathlib.Omega.{arith}
-use mathlib.Core.Logic.{inl, inr, ⊎_elim}
-use Prim.Native.Nat.{◌-◌, ◌≤◌}
-use Rattle.reach.specs.Asking.{UnderSomeBy, Looking}
+use mathlib.Core.Logic.{inl, inr}
+use Rattle.reach.specs.Asking.{UnderSomeBy}
 use Rattle.reach.proofs.Owning.{in_use_byte, unused_zero, unused_unknown, look_start, look_met, look_not, grown_group, grown_other}
 use Rattle.reach.proofs.Owning.{look_empty, look_left, look_owned, look_over}
 use Rattle.std.proofs.Common.{rules}

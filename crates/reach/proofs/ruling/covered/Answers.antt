@@ -3,7 +3,6 @@ use mathlib.Core.Path.{◌≡◌}
 use mathlib.Core.Bool.{true, false}
 use borrow.Author.Tests.{not-true, not-false}
 use Rattle.reach.specs.Asking.{covered_by}
-use Rattle.std.proofs.Common.{rules}
 use Rattle.reach.proofs.ruling.covered.Goals as goal
 
 pub returns-then-not-rule : goal.returns-then-not-rule

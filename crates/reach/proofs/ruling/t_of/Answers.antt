@@ -2,7 +2,6 @@
 use borrow.Author.Tests.{not-true, not-false}
 use Rattle.reach.proofs.Testing.{decides_at, decides_and, decides_true, refuted}
 use Rattle.reach.proofs.WordSets.{set_as, set_none, has_decides}
-use Rattle.std.proofs.Common.{rules}
 use Rattle.reach.proofs.ruling.t_of.Goals as goal
 
 pub returns-then-not-rule : goal.returns-then-not-rule

@@ -1,8 +1,5 @@
-use mathlib.Core.Path.{◌≡◌}
 use native.Mathlib.Omega.{arith}
-use Prim.Native.Nat.{◌+◌, ◌-◌, ◌≤◌, ◌<◌}
-use lib.ListN.{get_or}
-use Rattle.reach.specs.Words.{SetOf}
+use Prim.Native.Nat.{◌≤◌}
 use Rattle.reach.proofs.Testing.{decides_number}
 use Rattle.reach.proofs.WordSets.{set_as, gathered_none, gathered_next}
 use Rattle.std.proofs.Common.{rules}

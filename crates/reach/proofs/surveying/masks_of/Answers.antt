@@ -2,7 +2,6 @@
 use native.Mathlib.Omega.{arith}
 use Rattle.reach.proofs.Sorts.{sort_set, in_use_cases, in_use_of_sort}
 use Rattle.reach.proofs.WordSets.{set_as, set_or, set_equal, set_halves}
-use Rattle.std.proofs.Common.{rules}
 use Rattle.reach.proofs.surveying.masks_of.Goals as goal
 
 pub returns : goal.returns
