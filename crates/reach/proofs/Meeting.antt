@@ -14,7 +14,7 @@ use Rattle.reach.specs.Words.{bit, SetOf, Meet}
 use Rattle.reach.specs.Tests.{lowest_or, lowest, Some, Decides}
 use Rattle.reach.specs.Tables.{sort_in, sort, no_appointment, no_rule, appointment, rule, view}
 use Rattle.reach.specs.Reach.{InUse, Group, User, Target, Under, under}
-use Rattle.reach.specs.Privileges.{owner, Holds, Administers, Permitted, permits_by, askable, administers, permitting}
+use Rattle.reach.specs.Privileges.{Holds, Administers, Permitted, permits_by, askable, administers, permitting}
 use Rattle.reach.specs.Asking.{UnderBy, AppointedOver, PostsIn, HeldOver, PostsOf, CoversPair, HasB, HasFirst, covered_by, HasT}
 use Rattle.reach.proofs.Testing.{decides_as, decides_eqb, decides_not, decides_same, some_map}
 use Rattle.reach.proofs.WordSets.{set_as, set_none, set_mask, has_is, decides_nonempty}

@@ -1,7 +1,7 @@
 -- What one allowed request keeps: every object keeps an owner, every holder stays a user; and what it does not do: give its sender a
 -- privilege, or hand over what its sender does not own. Kind by kind, from what each change carries.
 use mathlib.Core.Path.{◌≡◌, refl, sym, ap, ◌∙◌, subst}
-use mathlib.Core.Logic.{◌⊎◌, ⊎_elim}
+use mathlib.Core.Logic.{⊎_elim}
 use Prim.Native.Nat.{ℕ, ◌<◌}
 use native.Mathlib.Decide.{ℕ_discrete}
 use native.Mathlib.Omega.{arith}

@@ -1,7 +1,6 @@
 -- `byte` is its definition: the element, and past the end of the record the default, 0.
 use mathlib.Core.Path.{sym}
 use lib.ListN.{get_or-eq_default}
-use Rattle.std.proofs.Common.{rules}
 use Rattle.frame.proofs.byte.Goals as goal
 
 pub returns : goal.returns

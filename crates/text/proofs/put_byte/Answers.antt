@@ -1,7 +1,6 @@
 -- A byte is written at n: with room it is stored there, and a full buffer stays as it is, since the byte is cut off. Both are laws of
 -- Writing, by the test that was made.
 use native.Mathlib.Omega.{arith}
-use Rattle.std.proofs.Common.{rules}
 use Rattle.text.proofs.Writing.{wrote_byte, wrote_full}
 use Rattle.text.proofs.put_byte.Goals as goal
 

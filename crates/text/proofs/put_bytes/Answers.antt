@@ -1,7 +1,4 @@
-use Prim.Native.Nat.{◌-◌}
-use lib.ListN.{length}
-use Rattle.text.proofs.Writing.{Putting, putting_start, putting_step, putting_end}
-use Rattle.std.proofs.Common.{rules}
+use Rattle.text.proofs.Writing.{putting_start, putting_step, putting_end}
 use Rattle.text.proofs.put_bytes.Goals as goal
 
 pub loop-i-init : goal.loop-i-init

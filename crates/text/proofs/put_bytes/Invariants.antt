@@ -1,8 +1,7 @@
 -- `put_bytes` writes the text: its loop keeps that the first i bytes are written, and each turn writes the next one behind them.
 use Prim.Native.Nat.{◌-◌}
 use lib.ListN.{length}
-use Rattle.text.proofs.Writing.{Putting, putting_start, putting_step, putting_end}
-use Rattle.std.proofs.Common.{rules}
+use Rattle.text.proofs.Writing.{Putting}
 use Rattle.text.proofs.put_bytes.Given as goal
 
 abbrev pub invariant-loop-i : goal.invariant-loop-i

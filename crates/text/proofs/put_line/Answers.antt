@@ -1,7 +1,6 @@
 -- `put_line` writes the line: its six parts are what its six calls write, in their order. Each call goes on where the one before it
 -- ended, so what they wrote joins.
 use native.Mathlib.Omega.{arith}
-use Rattle.std.proofs.Common.{rules}
 use Rattle.text.specs.Text.{line}
 use Rattle.text.proofs.Writing.{wrote_then, wrote_sign}
 use Rattle.text.proofs.put_line.Goals as goal

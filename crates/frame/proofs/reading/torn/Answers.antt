@@ -1,5 +1,4 @@
 -- `torn` is its definition: the three tests, of the length field that the callee gives.
-use Rattle.std.proofs.Common.{rules}
 use Rattle.frame.proofs.reading.torn.Goals as goal
 
 pub returns : goal.returns

@@ -1,6 +1,5 @@
 -- `standing` is its definition, by the contract of `counted`.
 use Rattle.reach.specs.Tables.{standing}
-use Rattle.std.proofs.Common.{rules}
 use Rattle.reach.proofs.Appointment.standing.Goals as goal
 
 pub returns : goal.returns

@@ -2,7 +2,6 @@
 use mathlib.Core.Path.{refl, sym, ◌∙◌}
 use Rattle.reach.proofs.WordSets.{set_none}
 use Rattle.reach.proofs.Meeting.{user_of_sort, sort_of_user, climbed, partners_below}
-use Rattle.std.proofs.Common.{rules}
 use Rattle.reach.proofs.Policy.administered.Goals as goal
 
 pub returns-then-sort_in-ne2 : goal.returns-then-sort_in-ne2

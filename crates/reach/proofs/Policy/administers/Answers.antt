@@ -3,7 +3,6 @@ use mathlib.Core.Path.{sym, ◌∙◌}
 use Rattle.reach.proofs.Testing.{fails}
 use Rattle.reach.proofs.Deciding.{administers_decides}
 use Rattle.reach.proofs.Meeting.{user_of_sort, sort_of_user, climbed, pair_covered}
-use Rattle.std.proofs.Common.{rules}
 use Rattle.reach.proofs.Policy.administers.Goals as goal
 
 pub returns-then-sort_in-ne2 : goal.returns-then-sort_in-ne2

@@ -15,5 +15,5 @@ pub returns-else-n-lt32 : goal.returns-else-n-lt32
 unfolding appointed
 returns-else-n-lt32 c =
     let a = c.args in
-    let long : length a.t1.appointments ≡ 32 = search (rules, length_mapped) in
-    rw (set_past a.t1.appointments a.i _ (omega (arith, long, c.if-n-lt32.false)))
+    let long : length a.self.appointments ≡ 32 = search (rules, length_mapped) in
+    rw (set_past a.self.appointments a.i _ (omega (arith, long, c.if-n-lt32.false)))

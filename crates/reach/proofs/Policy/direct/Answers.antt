@@ -1,6 +1,5 @@
 -- `direct` is its definition, by the contracts of what it calls.
 use Rattle.reach.specs.Reach.{direct}
-use Rattle.std.proofs.Common.{rules}
 use Rattle.reach.proofs.Policy.direct.Goals as goal
 
 pub returns : goal.returns

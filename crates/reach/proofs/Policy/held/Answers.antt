@@ -1,6 +1,5 @@
 -- Each answer is that of the policy's own question: the appointments are held against both climbs, if u is a user.
 use Rattle.reach.proofs.Holding.{direct_by, held_by}
-use Rattle.std.proofs.Common.{rules}
 use Rattle.reach.proofs.Policy.held.Goals as goal
 
 pub returns : goal.returns

@@ -1,6 +1,5 @@
 -- `in_use` is its definition, by the contract of `sort`.
 use Rattle.reach.specs.Reach.{in_use}
-use Rattle.std.proofs.Common.{rules}
 use Rattle.reach.proofs.Policy.in_use.Goals as goal
 
 pub returns : goal.returns

@@ -1,5 +1,4 @@
 -- `is_user` is its definition, by the contract of `sort`.
-use Rattle.std.proofs.Common.{rules}
 use Rattle.reach.proofs.Policy.is_user.Goals as goal
 
 pub returns : goal.returns

@@ -2,7 +2,6 @@
 use mathlib.Core.Path.{refl, sym, ◌∙◌}
 use Rattle.reach.proofs.WordSets.{set_none}
 use Rattle.reach.proofs.Meeting.{user_of_sort, sort_of_user, posts_of_user, held_below}
-use Rattle.std.proofs.Common.{rules}
 use Rattle.reach.proofs.Policy.managed.Goals as goal
 
 pub returns-then-sort_in-ne2 : goal.returns-then-sort_in-ne2

@@ -1,6 +1,5 @@
 -- The masks are those of its sorts.
 use mathlib.Core.Path.{refl}
-use Rattle.std.proofs.Common.{rules}
 use Rattle.reach.proofs.Policy.masks.Goals as goal
 
 pub returns : goal.returns

@@ -1,7 +1,6 @@
 -- The three tables are lent, and no rule is read.
 use mathlib.Core.Path.{sym, ◌∙◌}
 use Rattle.reach.proofs.Owning.{orphaned_by_tables}
-use Rattle.std.proofs.Common.{rules}
 use Rattle.reach.proofs.Policy.orphaned.Goals as goal
 
 pub returns : goal.returns

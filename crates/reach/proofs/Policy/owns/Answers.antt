@@ -3,7 +3,6 @@ use mathlib.Core.Path.{sym, ◌∙◌}
 use Rattle.reach.proofs.Testing.{decides_same, fails}
 use Rattle.reach.proofs.Deciding.{holds_decides}
 use Rattle.reach.proofs.Meeting.{user_of_sort, sort_of_user, climbed, posts_of_user, holds_meets}
-use Rattle.std.proofs.Common.{rules}
 use Rattle.reach.proofs.Policy.owns.Goals as goal
 
 pub returns-then-sort_in-ne2 : goal.returns-then-sort_in-ne2

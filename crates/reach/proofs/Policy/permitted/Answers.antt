@@ -3,7 +3,6 @@ use native.Mathlib.Omega.{arith}
 use mathlib.Core.Path.{refl, sym, ◌∙◌}
 use Rattle.reach.proofs.WordSets.{set_none}
 use Rattle.reach.proofs.Meeting.{user_of_sort, sort_of_user, climbed, granted_below}
-use Rattle.std.proofs.Common.{rules}
 use Rattle.reach.proofs.Policy.permitted.Goals as goal
 
 pub returns-then-sort_in-ne2 : goal.returns-then-sort_in-ne2

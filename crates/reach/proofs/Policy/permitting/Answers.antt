@@ -1,16 +1,14 @@
 -- The lowest rule with his groups and the groups of x, where there can be a permission at all.
 use mathlib.Core.Path.{sym, ◌∙◌}
-use borrow.Author.Tests.{not-true, not-false}
 use Rattle.reach.proofs.Deciding.{permitting_not}
 use Rattle.reach.proofs.Meeting.{askable_by, climbed, covering_is}
-use Rattle.std.proofs.Common.{rules}
 use Rattle.reach.proofs.Policy.permitting.Goals as goal
 
 pub returns-then-not-user-target : goal.returns-then-not-user-target
 returns-then-not-user-target c =
     permitting_not _ _ _ _
     (sym (askable_by _ _ _ _ _ _ c.sort_in-user.ensures c.sort_in-target.ensures)
-    ∙ not-true _ c.if-not-user-target.true)
+    ∙ c.if-not-user-target.true)
 
 pub returns : goal.returns
 returns c =
@@ -20,4 +18,4 @@ returns c =
     _
     (climbed _ c.climb-targets.ensures)
     (sym (askable_by _ _ _ _ _ _ c.sort_in-user.ensures c.sort_in-target.ensures)
-    ∙ not-false _ c.if-not-user-target.false)
+    ∙ c.if-not-user-target.false)

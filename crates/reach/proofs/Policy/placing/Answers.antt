@@ -3,7 +3,6 @@ use native.Mathlib.Omega.{arith}
 use Rattle.reach.proofs.WordSets.{set_at}
 use Rattle.reach.proofs.Meeting.{climbed}
 use Rattle.reach.proofs.Holding.{direct_by}
-use Rattle.std.proofs.Common.{rules}
 use Rattle.reach.proofs.Policy.placing.Goals as goal
 
 pub returns : goal.returns

@@ -1,7 +1,6 @@
 -- For a user the table of appointments tells; who is none holds nothing.
 use mathlib.Core.Path.{sym, ◌∙◌}
 use Rattle.reach.proofs.Meeting.{user_of_sort, sort_of_user, posts_of_user, posts_of_none}
-use Rattle.std.proofs.Common.{rules}
 use Rattle.reach.proofs.Policy.posts.Goals as goal
 
 pub returns-then-sort_in-ne2 : goal.returns-then-sort_in-ne2

@@ -14,7 +14,7 @@ returns-then-g-lt64 c =
     rw (
       lt-ltb _ _ c.if-x-lt64.true,
       lt-ltb _ _ c.if-g-lt64.true,
-      sym (or_is_with a.g (get_or a.t1.memberships a.x 0) (search rules)),
+      sym (or_is_with a.g (get_or a.self.memberships a.x 0) (search rules)),
     )
 
 pub returns-else-g-lt64 : goal.returns-else-g-lt64

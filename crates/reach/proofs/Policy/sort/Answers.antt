@@ -1,7 +1,6 @@
 -- `sort` is its definition: on the table by the contract of `counted`, past it by the other case.
 use borrow.Author.Tests.{lt-ltb, le-ltb}
 use Rattle.reach.specs.Tables.{sort}
-use Rattle.std.proofs.Common.{rules}
 use Rattle.reach.proofs.Policy.sort.Goals as goal
 
 pub returns-then-i-lt64 : goal.returns-then-i-lt64

@@ -17,5 +17,5 @@ pub returns-else-i-lt64 : goal.returns-else-i-lt64
 unfolding stored has
 returns-else-i-lt64 c =
     let a = c.args in
-    let long : length a.t1.memberships ≡ 64 = search rules in
-    rw (get_d_past a.t1.memberships a.x 0 (omega (arith, long, c.if-i-lt64.false)), bit_zero)
+    let long : length a.self.memberships ≡ 64 = search rules in
+    rw (get_d_past a.self.memberships a.x 0 (omega (arith, long, c.if-i-lt64.false)), bit_zero)

@@ -12,8 +12,8 @@ pub returns-then-g-lt64 : goal.returns-then-g-lt64
 unfolding taken
 returns-then-g-lt64 c =
     let a = c.args in
-    let fits : Fits w64 (get_or a.t1.memberships a.x 0) = search rules in
-    rw (lt-ltb _ _ c.if-x-lt64.true, lt-ltb _ _ c.if-g-lt64.true, and_is_without a.g (get_or a.t1.memberships a.x 0) (search rules) fits.fits)
+    let fits : Fits w64 (get_or a.self.memberships a.x 0) = search rules in
+    rw (lt-ltb _ _ c.if-x-lt64.true, lt-ltb _ _ c.if-g-lt64.true, and_is_without a.g (get_or a.self.memberships a.x 0) (search rules) fits.fits)
 
 pub returns-else-g-lt64 : goal.returns-else-g-lt64
 unfolding taken

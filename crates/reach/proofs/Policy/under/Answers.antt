@@ -2,7 +2,6 @@
 use mathlib.Core.Path.{◌∙◌}
 use Rattle.reach.proofs.WordSets.{has_is}
 use Rattle.reach.proofs.Chains.{under_decides}
-use Rattle.std.proofs.Common.{rules}
 use Rattle.reach.proofs.Policy.under.Goals as goal
 
 pub returns : goal.returns

@@ -1,7 +1,6 @@
 -- All that is under the one number g.
 use mathlib.Core.Path.{refl}
 use Rattle.reach.proofs.Meeting.{one_below}
-use Rattle.std.proofs.Common.{rules}
 use Rattle.reach.proofs.Policy.under_set.Goals as goal
 
 pub returns : goal.returns

@@ -15,5 +15,5 @@ pub returns-else-n-lt64 : goal.returns-else-n-lt64
 unfolding ruled
 returns-else-n-lt64 c =
     let a = c.args in
-    let long : length a.t1.rules ≡ 64 = search (rules, length_mapped) in
-    rw (set_past a.t1.rules a.i _ (omega (arith, long, c.if-n-lt64.false)))
+    let long : length a.self.rules ≡ 64 = search (rules, length_mapped) in
+    rw (set_past a.self.rules a.i _ (omega (arith, long, c.if-n-lt64.false)))

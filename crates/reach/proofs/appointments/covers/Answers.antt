@@ -1,7 +1,6 @@
 -- The holder is tested, and then the appointment is asked for him.
 use Rattle.reach.proofs.Testing.{decides_none}
 use Rattle.reach.proofs.Posting.{held_pair}
-use Rattle.std.proofs.Common.{rules}
 use Rattle.reach.proofs.appointments.covers.Goals as goal
 
 pub returns-then-w-u : goal.returns-then-w-u

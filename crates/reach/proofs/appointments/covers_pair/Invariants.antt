@@ -1,12 +1,9 @@
 -- The loop has met no appointment that covers the pair.
-use native.Mathlib.Omega.{arith}
 use Prim.Native.Nat.{◌-◌, ◌≤◌}
 use lib.ListN.{get_or}
 use Rattle.reach.specs.Tests.{Some}
 use Rattle.reach.specs.Tables.{no_appointment}
 use Rattle.reach.specs.Asking.{CoversPair}
-use Rattle.reach.proofs.Testing.{refuted, decides_none, decides_some_at, some_not_start, some_not_next, some_not_end}
-use Rattle.std.proofs.Common.{rules}
 use Rattle.reach.proofs.appointments.covers_pair.Given as goal
 
 abbrev pub invariant-loop-i : goal.invariant-loop-i

@@ -2,16 +2,11 @@ use native.Mathlib.Omega.{arith}
 use mathlib.Core.Path.{◌≡◌}
 use Prim.Native.Nat.{◌<◌}
 use lib.Count.{count_trailing_zeros}
-use lib.ListN.{get_or}
 use Rattle.reach.specs.Words.{bit}
-use Rattle.reach.specs.Tests.{Decides}
-use Rattle.reach.specs.Tables.{no_appointment}
-use Rattle.reach.specs.Privileges.{owner, manager}
-use Rattle.reach.specs.Asking.{CoversPair}
 use Rattle.reach.proofs.Bits.{lowest_bit}
-use Rattle.reach.proofs.Marking.{Marked, mark_start, mark_less, mark_step, SeenSet, seen_set_start, seen_set_step, seen_set_end}
-use Rattle.reach.proofs.Marking.{Seen, seen_test_start, seen_test_step, seen_test_end}
-use Rattle.reach.proofs.Posting.{Posted, held_posted, held_pair, appointed_over}
+use Rattle.reach.proofs.Marking.{mark_start, mark_less, mark_step, seen_set_start, seen_set_step, seen_set_end}
+use Rattle.reach.proofs.Marking.{seen_test_start, seen_test_step, seen_test_end}
+use Rattle.reach.proofs.Posting.{held_posted, held_pair, appointed_over}
 use Rattle.std.proofs.Common.{rules}
 use Rattle.reach.proofs.appointments.given_to.Goals as goal
 

@@ -1,9 +1,5 @@
-use mathlib.Core.Path.{◌≡◌}
 use native.Mathlib.Omega.{arith}
-use Prim.Native.Nat.{◌-◌, ◌≤◌, ◌<◌}
-use lib.ListN.{get_or}
-use Rattle.reach.specs.Words.{SetOf}
-use Rattle.reach.specs.Tables.{no_appointment}
+use Prim.Native.Nat.{◌≤◌}
 use Rattle.reach.proofs.Testing.{decides_eqb}
 use Rattle.reach.proofs.WordSets.{set_as, gathered_none, gathered_next}
 use Rattle.std.proofs.Common.{rules}

@@ -1,13 +1,9 @@
 -- After i turns the set has the places below i whose appointment u holds.
 use mathlib.Core.Path.{◌≡◌}
-use native.Mathlib.Omega.{arith}
 use Prim.Native.Nat.{◌-◌, ◌≤◌, ◌<◌}
 use lib.ListN.{get_or}
 use Rattle.reach.specs.Words.{SetOf}
 use Rattle.reach.specs.Tables.{no_appointment}
-use Rattle.reach.proofs.Testing.{decides_eqb}
-use Rattle.reach.proofs.WordSets.{set_as, gathered_none, gathered_next}
-use Rattle.std.proofs.Common.{rules}
 use Rattle.reach.proofs.appointments.held_by.Given as goal
 
 abbrev pub invariant-loop-i : goal.invariant-loop-i

@@ -1,18 +1,11 @@
 -- The places that have an owner's appointment are gone through, the lowest first: the set has what was seen by then.
-use native.Mathlib.Omega.{arith}
 use mathlib.Core.Path.{◌≡◌}
 use Prim.Native.Nat.{◌<◌}
-use lib.Count.{count_trailing_zeros}
 use lib.ListN.{get_or}
-use Rattle.reach.specs.Words.{bit}
 use Rattle.reach.specs.Tables.{no_appointment}
 use Rattle.reach.specs.Privileges.{owner}
 use Rattle.reach.specs.Asking.{OwnersA}
-use Rattle.reach.proofs.Bits.{lowest_bit}
-use Rattle.reach.proofs.Marking.{Marked, mark_start, mark_less, mark_step, SeenSet, seen_set_start, seen_set_step, seen_set_end}
-use Rattle.reach.proofs.Testing.{decides_number}
-use Rattle.reach.proofs.Posting.{owner_posted}
-use Rattle.std.proofs.Common.{rules}
+use Rattle.reach.proofs.Marking.{Marked, SeenSet}
 use Rattle.reach.proofs.appointments.owners_from.Given as goal
 
 abbrev pub invariant-loop-left : goal.invariant-loop-left

@@ -3,7 +3,6 @@ use mathlib.Core.Path.{refl}
 use native.Mathlib.Omega.{arith}
 use Rattle.reach.proofs.Testing.{decides_as, decides_at, decides_and, decides_number}
 use Rattle.reach.proofs.WordSets.{has_decides}
-use Rattle.std.proofs.Common.{rules}
 use Rattle.reach.proofs.appointments.pair_by.Goals as goal
 
 pub returns : goal.returns

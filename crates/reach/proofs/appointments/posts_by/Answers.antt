@@ -2,7 +2,6 @@
 use native.Mathlib.Omega.{arith}
 use Rattle.reach.proofs.Testing.{decides_number}
 use Rattle.reach.proofs.Posting.{posted}
-use Rattle.std.proofs.Common.{rules}
 use Rattle.reach.proofs.appointments.posts_by.Goals as goal
 
 pub returns : goal.returns

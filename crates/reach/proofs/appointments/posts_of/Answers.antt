@@ -2,13 +2,10 @@ use native.Mathlib.Omega.{arith}
 use mathlib.Core.Path.{◌≡◌}
 use Prim.Native.Nat.{◌<◌}
 use lib.Count.{count_trailing_zeros}
-use lib.ListN.{get_or}
 use Rattle.reach.specs.Words.{bit}
-use Rattle.reach.specs.Tables.{no_appointment}
-use Rattle.reach.specs.Privileges.{owner, manager}
 use Rattle.reach.proofs.Bits.{lowest_bit}
-use Rattle.reach.proofs.Marking.{Marked, mark_start, mark_less, mark_step, SeenSet, seen_set_start, seen_set_step, seen_set_end}
-use Rattle.reach.proofs.Posting.{Posted, held_posted, appointed_over}
+use Rattle.reach.proofs.Marking.{mark_start, mark_less, mark_step, seen_set_start, seen_set_step, seen_set_end}
+use Rattle.reach.proofs.Posting.{held_posted, appointed_over}
 use Rattle.std.proofs.Common.{rules}
 use Rattle.reach.proofs.appointments.posts_of.Goals as goal
 

@@ -2,12 +2,9 @@ use native.Mathlib.Omega.{arith}
 use mathlib.Core.Path.{◌≡◌}
 use Prim.Native.Nat.{◌<◌}
 use lib.Count.{count_trailing_zeros}
-use lib.ListN.{get_or}
 use Rattle.reach.specs.Words.{bit}
-use Rattle.reach.specs.Tables.{no_appointment}
-use Rattle.reach.specs.Asking.{HasB, HasFirst}
 use Rattle.reach.proofs.Bits.{lowest_bit}
-use Rattle.reach.proofs.Marking.{Marked, mark_start, mark_less, mark_step, SeenSet, seen_set_start, seen_set_step, seen_set_end}
+use Rattle.reach.proofs.Marking.{mark_start, mark_less, mark_step, seen_set_start, seen_set_step, seen_set_end}
 use Rattle.reach.proofs.Posting.{held_first, held_second}
 use Rattle.std.proofs.Common.{rules}
 use Rattle.reach.proofs.appointments.sides_of.Goals as goal

@@ -1,16 +1,10 @@
 -- The places that u holds are gone through, the lowest first: both sets have what was seen by then.
-use native.Mathlib.Omega.{arith}
 use mathlib.Core.Path.{◌≡◌}
 use Prim.Native.Nat.{◌<◌}
-use lib.Count.{count_trailing_zeros}
 use lib.ListN.{get_or}
-use Rattle.reach.specs.Words.{bit}
 use Rattle.reach.specs.Tables.{no_appointment}
 use Rattle.reach.specs.Asking.{HasB, HasFirst}
-use Rattle.reach.proofs.Bits.{lowest_bit}
-use Rattle.reach.proofs.Marking.{Marked, mark_start, mark_less, mark_step, SeenSet, seen_set_start, seen_set_step, seen_set_end}
-use Rattle.reach.proofs.Posting.{held_first, held_second}
-use Rattle.std.proofs.Common.{rules}
+use Rattle.reach.proofs.Marking.{Marked, SeenSet}
 use Rattle.reach.proofs.appointments.sides_of.Given as goal
 
 abbrev pub invariant-loop-left : goal.invariant-loop-left

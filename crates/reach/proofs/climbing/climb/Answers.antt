@@ -1,6 +1,6 @@
 use native.Mathlib.Omega.{arith}
 use mathlib.Core.Path.{◌≡◌, ◌∙◌}
-use Prim.Native.Nat.{◌+◌, ◌-◌, ◌*◌, ◌^◌, ◌<◌}
+use Prim.Native.Nat.{◌<◌}
 use lib.Bits.{bit_or}
 use lib.Count.{count_trailing_zeros}
 use Rattle.reach.specs.Words.{bit}
@@ -10,7 +10,7 @@ use Rattle.reach.proofs.WordSets.{set_none}
 use Rattle.reach.proofs.Reaching.{under_lower}
 use Rattle.reach.proofs.Chains.{in_use_below}
 use Rattle.reach.proofs.Gathering.{left_least}
-use Rattle.reach.proofs.Upward.{in_use_by, in_use_not, Climbing, climb_start, climb_step, climb_less, climb_end}
+use Rattle.reach.proofs.Upward.{in_use_by, in_use_not, climb_start, climb_step, climb_less, climb_end}
 use Rattle.std.proofs.Common.{rules}
 use Rattle.reach.proofs.climbing.climb.Goals as goal
 

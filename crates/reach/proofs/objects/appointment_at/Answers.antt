@@ -10,5 +10,5 @@ use Rattle.reach.proofs.objects.appointment_at.Goals as goal
 pub returns : goal.returns
 returns c =
     let a = c.args in
-    let long : length a.t1 ≡ 32 = search (rules, length_mapped) in
-    sym (get_d_past a.t1 a.i no_appointment (omega (arith, long, c.if-n-lt32.false)))
+    let long : length a.appointments ≡ 32 = search (rules, length_mapped) in
+    sym (get_d_past a.appointments a.i no_appointment (omega (arith, long, c.if-n-lt32.false)))

@@ -1,7 +1,6 @@
 -- A row is the element at its place, and past the end of the table there is nothing.
 use mathlib.Core.Path.{sym}
 use Rattle.reach.proofs.Lists.{get_d_past}
-use Rattle.std.proofs.Common.{rules}
 use Rattle.reach.proofs.objects.row.Goals as goal
 
 pub returns-else-i-rows : goal.returns-else-i-rows

@@ -10,5 +10,5 @@ use Rattle.reach.proofs.objects.rule_at.Goals as goal
 pub returns : goal.returns
 returns c =
     let a = c.args in
-    let long : length a.t1 ≡ 64 = search (rules, length_mapped) in
-    sym (get_d_past a.t1 a.i no_rule (omega (arith, long, c.if-n-lt64.false)))
+    let long : length a.rules ≡ 64 = search (rules, length_mapped) in
+    sym (get_d_past a.rules a.i no_rule (omega (arith, long, c.if-n-lt64.false)))

@@ -1,6 +1,5 @@
 -- `sort_in` is its definition: on the table by the contract of `counted`, past it by the other case.
 use borrow.Author.Tests.{lt-ltb, le-ltb}
-use Rattle.std.proofs.Common.{rules}
 use Rattle.reach.proofs.objects.sort_in.Goals as goal
 
 pub returns-then-i-lt64 : goal.returns-then-i-lt64

@@ -1,7 +1,5 @@
 use native.Mathlib.Omega.{arith}
-use Rattle.reach.specs.Asking.{Looking}
 use Rattle.reach.proofs.Owning.{left_is, ownerless_is}
-use Rattle.std.proofs.Common.{rules}
 use Rattle.reach.proofs.orphans.ownerless.Goals as goal
 
 pub loop-left-init : goal.loop-left-init

@@ -1,9 +1,6 @@
 -- Each round but the last leaves less. After the last no row of what is left has a group that is owned, so what is left has no owner, and
 -- all else in use has one.
-use native.Mathlib.Omega.{arith}
 use Rattle.reach.specs.Asking.{Looking}
-use Rattle.reach.proofs.Owning.{left_is, ownerless_is}
-use Rattle.std.proofs.Common.{rules}
 use Rattle.reach.proofs.orphans.ownerless.Given as goal
 
 abbrev pub invariant-loop-left : goal.invariant-loop-left

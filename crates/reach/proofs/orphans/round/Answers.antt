@@ -1,15 +1,14 @@
 use native.Mathlib.Omega.{arith}
 use mathlib.Core.Path.{◌≡◌}
-use Prim.Native.Nat.{ℕ, ◌-◌, ◌*◌, ◌%◌, ◌^◌, ◌<◌}
+use Prim.Native.Nat.{◌-◌, ◌*◌, ◌%◌, ◌^◌, ◌<◌}
 use lib.Bits.{bit_and}
 use lib.Count.{count_trailing_zeros}
 use Rattle.reach.specs.Words.{bit}
-use Rattle.reach.specs.Asking.{Looking}
 use Rattle.reach.proofs.Bits.{lowest_bit}
 use Rattle.reach.proofs.WordSets.{set_bits, set_or, set_one}
 use Rattle.reach.proofs.Gathering.{left_less}
 use Rattle.reach.proofs.Owning.{look_through, meets, grown_group, grown_other, look_freed}
-use Rattle.reach.proofs.Owning.{Rounding, round_start, round_none, round_freed, round_end}
+use Rattle.reach.proofs.Owning.{round_start, round_none, round_freed, round_end}
 use Rattle.std.proofs.Common.{rules}
 use Rattle.reach.proofs.orphans.round.Goals as goal
 

@@ -1,10 +1,10 @@
 use native.Mathlib.Omega.{arith}
-use mathlib.Core.Logic.{inl, inr, ⊎_elim}
-use Prim.Native.Nat.{◌-◌, ◌≤◌}
-use Rattle.reach.specs.Asking.{UnderSomeBy, Looking}
+use mathlib.Core.Logic.{inl, inr}
+use Rattle.reach.specs.Asking.{UnderSomeBy}
 use Rattle.reach.proofs.Owning.{in_use_byte, unused_zero, unused_unknown, look_start, look_met, look_not, grown_group, grown_other}
 use Rattle.reach.proofs.Owning.{look_empty, look_left, look_owned, look_over}
 use Rattle.std.proofs.Common.{rules}
+use Rattle.reach.proofs.orphans.scan.Goals.{then-memberships-x-eq0+else-set-x-eq0, else-memberships-x-eq0}
 use Rattle.reach.proofs.orphans.scan.Goals as goal
 
 pub loop-x-init : goal.loop-x-init
@@ -29,24 +29,24 @@ loop-x-preserved-then-set-x-eq0 c =
 pub loop-x-preserved-then-sort-ne1 : goal.loop-x-preserved-then-sort-ne1
 loop-x-preserved-then-sort-ne1 c =
     let owned : let l = c.loop-x in
-        UnderSomeBy c.args.sorts.now
-        c.args.memberships.now
-        c.args.set
-        l.x = let low = c.loop-x-test.true in
-        look_met c.loop-x.invariant.1 _ low (in_use_byte _ _ _ low c.if-sort-eq0.false (omega (arith, c.if-sort-gt3.false)))
-        (⊎_elim (λ w. inr w.1.left) (λ w. inl w.left) c.if-memberships-x-eq0.branch) in
+    UnderSomeBy c.args.sorts.now
+    c.args.memberships.now
+    c.args.set
+    l.x = let low = c.loop-x-test.true in
+    look_met c.loop-x.invariant.1 _ low (in_use_byte _ _ _ low c.if-sort-eq0.false (omega (arith, c.if-sort-gt3.false)))
+    (elim c.if-memberships-x-eq0.branch [ then-memberships-x-eq0+else-set-x-eq0 w ↦ inr w.if-set-x-eq0.false | else-memberships-x-eq0 w ↦ inl w.if-memberships-x-eq0.false ]) in
     let k = c.loop-x.invariant.1 in
     (search rules, look_owned k (grown_other k _ c.if-sort-ne1.true owned))
 
 pub loop-x-preserved : goal.loop-x-preserved
 loop-x-preserved c =
     let owned : let l = c.loop-x in
-        UnderSomeBy c.args.sorts.now
-        c.args.memberships.now
-        c.args.set
-        l.x = let low = c.loop-x-test.true in
-        look_met c.loop-x.invariant.1 _ low (in_use_byte _ _ _ low c.if-sort-eq0.false (omega (arith, c.if-sort-gt3.false)))
-        (⊎_elim (λ w. inr w.1.left) (λ w. inl w.left) c.if-memberships-x-eq0.branch) in
+    UnderSomeBy c.args.sorts.now
+    c.args.memberships.now
+    c.args.set
+    l.x = let low = c.loop-x-test.true in
+    look_met c.loop-x.invariant.1 _ low (in_use_byte _ _ _ low c.if-sort-eq0.false (omega (arith, c.if-sort-gt3.false)))
+    (elim c.if-memberships-x-eq0.branch [ then-memberships-x-eq0+else-set-x-eq0 w ↦ inr w.if-set-x-eq0.false | else-memberships-x-eq0 w ↦ inl w.if-memberships-x-eq0.false ]) in
     let k = c.loop-x.invariant.1 in
     (search rules, look_owned k (grown_group k _ c.loop-x-test.true c.if-sort-ne1.false owned))
 

@@ -1,12 +1,7 @@
 -- After x objects what is found out is that of the objects below x. Each way through a turn is one law: the object is not in use, or it is
 -- left, or it is found owned, and is a group or not.
-use native.Mathlib.Omega.{arith}
-use mathlib.Core.Logic.{inl, inr, ⊎_elim}
 use Prim.Native.Nat.{◌-◌, ◌≤◌}
-use Rattle.reach.specs.Asking.{UnderSomeBy, Looking}
-use Rattle.reach.proofs.Owning.{in_use_byte, unused_zero, unused_unknown, look_start, look_met, look_not, grown_group, grown_other}
-use Rattle.reach.proofs.Owning.{look_empty, look_left, look_owned, look_over}
-use Rattle.std.proofs.Common.{rules}
+use Rattle.reach.specs.Asking.{Looking}
 use Rattle.reach.proofs.orphans.scan.Given as goal
 
 abbrev pub invariant-loop-x : goal.invariant-loop-x

@@ -1,14 +1,13 @@
 use native.Mathlib.Omega.{arith}
 use mathlib.Core.Path.{◌≡◌, refl}
-use Prim.Native.Nat.{◌-◌, ◌^◌, ◌<◌}
+use Prim.Native.Nat.{◌<◌}
 use lib.Count.{count_trailing_zeros}
 use Rattle.reach.specs.Words.{bit}
-use Rattle.reach.specs.Surveys.{Whose}
 use Rattle.reach.proofs.Bits.{lowest_bit}
 use Rattle.reach.proofs.WordSets.{set_mask, decides_nonempty}
 use Rattle.reach.proofs.Gathering.{left_less}
-use Rattle.reach.proofs.Settling.{Sweeping, sweep_start, sweep_round, sweep_step, sweep_over}
-use Rattle.reach.proofs.Settling.{Settling, settle_start, settle_round, settle_step, settle_over, settle_end}
+use Rattle.reach.proofs.Settling.{sweep_start, sweep_round, sweep_step, sweep_over}
+use Rattle.reach.proofs.Settling.{settle_start, settle_round, settle_step, settle_over, settle_end}
 use Rattle.std.proofs.Common.{rules}
 use Rattle.reach.proofs.rounds.descend.Goals as goal
 

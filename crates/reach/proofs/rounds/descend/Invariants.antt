@@ -1,17 +1,9 @@
 -- The rounds find all that is under something of the set: the invariant of both loops is `Settling`, and `Sweeping` whatever the policy. A
 -- round makes less of what is left; rounds end because each but the last finds more than was found when it began.
-use native.Mathlib.Omega.{arith}
-use mathlib.Core.Path.{◌≡◌, refl}
-use Prim.Native.Nat.{◌-◌, ◌^◌, ◌<◌}
-use lib.Count.{count_trailing_zeros}
-use Rattle.reach.specs.Words.{bit}
+use Prim.Native.Nat.{◌-◌, ◌^◌}
 use Rattle.reach.specs.Surveys.{Whose}
-use Rattle.reach.proofs.Bits.{lowest_bit}
-use Rattle.reach.proofs.WordSets.{set_mask, decides_nonempty}
-use Rattle.reach.proofs.Gathering.{left_less}
-use Rattle.reach.proofs.Settling.{Sweeping, sweep_start, sweep_round, sweep_step, sweep_over}
-use Rattle.reach.proofs.Settling.{Settling, settle_start, settle_round, settle_step, settle_over, settle_end}
-use Rattle.std.proofs.Common.{rules}
+use Rattle.reach.proofs.Settling.{Sweeping}
+use Rattle.reach.proofs.Settling.{Settling}
 use Rattle.reach.proofs.rounds.descend.Given as goal
 
 abbrev pub invariant-loop-left : goal.invariant-loop-left

@@ -2,7 +2,6 @@
 use mathlib.Core.Path.{refl}
 use Rattle.reach.specs.Asking.{reach_of}
 use Rattle.reach.proofs.WordSets.{set_as, set_mask, set_not, set_below}
-use Rattle.std.proofs.Common.{rules}
 use Rattle.reach.proofs.rounds.not_under.Goals as goal
 
 pub returns : goal.returns

@@ -1,11 +1,5 @@
-use mathlib.Core.Path.{◌≡◌, sym, ◌∙◌}
-use mathlib.Core.Bool.{false}
+use mathlib.Core.Path.{sym, ◌∙◌}
 use native.Mathlib.Omega.{arith}
-use Prim.Native.Nat.{◌-◌, ◌≤◌}
-use lib.ListN.{get_or}
-use Rattle.reach.specs.Tests.{some}
-use Rattle.reach.specs.Tables.{no_rule}
-use Rattle.reach.specs.Asking.{covered_by}
 use Rattle.reach.proofs.Testing.{none_start, none_next, none_end, lowest_none, lowest_found}
 use Rattle.std.proofs.Common.{rules}
 use Rattle.reach.proofs.ruling.covering.Goals as goal

@@ -2,7 +2,6 @@
 use borrow.Author.Tests.{not-true, not-false}
 use Rattle.reach.proofs.Testing.{decides_at, decides_and, decides_true, refuted}
 use Rattle.reach.proofs.WordSets.{set_as, set_none, has_decides}
-use Rattle.std.proofs.Common.{rules}
 use Rattle.reach.proofs.ruling.t_of.Goals as goal
 
 pub returns-then-not-rule : goal.returns-then-not-rule
@@ -16,7 +15,7 @@ returns-then-not-has c =
     (decides_and _ _
     (decides_at c.has.ensures (has_decides _ _))
     (decides_at c.has-2.ensures (has_decides _ _)))
-    (not-true _ c.if-not-has.true)
+    c.if-not-has.true
     (h.1.operation, h.1.in_u))
 
 pub returns : goal.returns
@@ -24,14 +23,14 @@ returns c =
     let both =
     (decides_and _ _ (decides_at c.has.ensures (has_decides _ _)) (decides_at c.has-2.ensures (has_decides _ _))
     ).sound
-    (not-false _ c.if-not-has.false)
+    c.if-not-has.false
     in
     set_as
     c.just.ensures
     (λ x w. (
       w.0,
       record {
-        used = not-false _ c.if-not-rule.false;
+        used = (not-false _ c.if-not-rule.false);
         operation = both.0;
         in_u = both.1;
         is_t = w.1;

@@ -1,7 +1,6 @@
 -- `has` is its definition: `(set >> x) & 1` is bit x, and a word has no bit from 64 up.
 use Rattle.reach.specs.Words.{has}
 use Rattle.reach.proofs.Bits.{low_bit, bit_high}
-use Rattle.std.proofs.Common.{rules}
 use Rattle.reach.proofs.sets.has.Goals as goal
 
 pub returns-then-x-lt64 : goal.returns-then-x-lt64

@@ -2,7 +2,6 @@
 use mathlib.Core.Path.{sym}
 use native.Mathlib.Omega.{arith}
 use Rattle.reach.proofs.WordSets.{set_as, set_one, set_none}
-use Rattle.std.proofs.Common.{rules}
 use Rattle.reach.proofs.sets.just.Goals as goal
 
 pub returns-then-x-lt64 : goal.returns-then-x-lt64

@@ -2,7 +2,6 @@
 use mathlib.Core.Bool.{true≢false}
 use mathlib.Core.Path.{sym, ◌∙◌}
 use Rattle.reach.proofs.WordSets.{set_as, set_one_half, set_none}
-use Rattle.std.proofs.Common.{rules}
 use Rattle.reach.proofs.sets.mark.Goals as goal
 
 pub returns-then-passed : goal.returns-then-passed

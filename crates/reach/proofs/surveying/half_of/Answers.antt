@@ -1,8 +1,5 @@
-use mathlib.Core.Path.{◌≡◌}
 use native.Mathlib.Omega.{arith}
-use Prim.Native.Nat.{◌+◌, ◌-◌, ◌≤◌, ◌<◌}
-use lib.ListN.{get_or}
-use Rattle.reach.specs.Words.{SetOf}
+use Prim.Native.Nat.{◌≤◌}
 use Rattle.reach.proofs.Testing.{decides_number}
 use Rattle.reach.proofs.WordSets.{set_as, gathered_none, gathered_next}
 use Rattle.std.proofs.Common.{rules}
@@ -12,13 +9,12 @@ pub loop-i-init : goal.loop-i-init
 loop-i-init c = (search rules, gathered_none _, gathered_none _, gathered_none _)
 
 pub loop-i-preserved : goal.loop-i-preserved
-loop-i-preserved c =
-    (
-      search rules,
-      gathered_next _ c.loop-i.invariant.1 c.mark-groups.ensures (decides_number _ _ 1 (omega arith)),
-      gathered_next _ c.loop-i.invariant.2 c.mark-users.ensures (decides_number _ _ 2 (omega arith)),
-      gathered_next _ c.loop-i.invariant.3 c.mark-targets.ensures (decides_number _ _ 3 (omega arith)),
-    )
+loop-i-preserved c = (
+  search rules,
+  gathered_next _ c.loop-i.invariant.1 c.mark-groups.ensures (decides_number _ _ 1 (omega arith)),
+  gathered_next _ c.loop-i.invariant.2 c.mark-users.ensures (decides_number _ _ 2 (omega arith)),
+  gathered_next _ c.loop-i.invariant.3 c.mark-targets.ensures (decides_number _ _ 3 (omega arith)),
+)
 
 pub returns : goal.returns
 returns c =

@@ -1,12 +1,8 @@
 -- The sets of a half are those of its bytes that are 1, 2 and 3: after i turns each has those below i.
 use mathlib.Core.Path.{◌≡◌}
-use native.Mathlib.Omega.{arith}
 use Prim.Native.Nat.{◌+◌, ◌-◌, ◌≤◌, ◌<◌}
 use lib.ListN.{get_or}
 use Rattle.reach.specs.Words.{SetOf}
-use Rattle.reach.proofs.Testing.{decides_number}
-use Rattle.reach.proofs.WordSets.{set_as, gathered_none, gathered_next}
-use Rattle.std.proofs.Common.{rules}
 use Rattle.reach.proofs.surveying.half_of.Given as goal
 
 abbrev pub invariant-loop-i : goal.invariant-loop-i

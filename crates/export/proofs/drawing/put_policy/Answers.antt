@@ -1,0 +1,18 @@
+-- `put_policy` stores the four tables, each at its place: together they are the picture, by `picture_stored`.
+use Rattle.export.proofs.Picturing.{picture_stored}
+use Rattle.reach.specs.Tables.{Sized}
+use Rattle.reach.proofs.Lists.{length_mapped}
+use Rattle.std.proofs.Common.{rules}
+use Rattle.export.proofs.drawing.put_policy.Goals as goal
+
+pub returns : goal.returns
+returns c =
+    let sized : Sized c.args.p = record {
+      sorts = search rules;
+      memberships = search rules;
+      appointments = search (rules, length_mapped);
+      rules = search (rules, length_mapped);
+    } in
+    rw
+    (c.put_rules.ensures, c.put_appointments.ensures, c.put_rows.ensures, c.put_sorts.ensures)
+    (picture_stored _ sized _)

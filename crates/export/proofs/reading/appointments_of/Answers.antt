@@ -1,0 +1,18 @@
+use Prim.Native.Nat.{◌-◌}
+use native.Mathlib.Omega.{arith}
+use Rattle.export.specs.Picture.{appointment_at}
+use Rattle.export.proofs.Tabling.{Tabled, tabled_start, tabled_step, tabled_end}
+use Rattle.std.proofs.Common.{rules}
+use Rattle.export.proofs.reading.appointments_of.Goals as goal
+
+pub loop-i-init : goal.loop-i-init
+loop-i-init c = tabled_start _ _ _ (search rules)
+
+pub bounds-appointments-i : goal.bounds-appointments-i
+bounds-appointments-i c = omega (arith, c.loop-i-test.true, c.loop-i.invariant.long)
+
+pub loop-i-preserved : goal.loop-i-preserved
+loop-i-preserved c = tabled_step _ _ c.loop-i.invariant c.loop-i-test.true _ c.appointment_from.ensures
+
+pub returns : goal.returns
+returns c = tabled_end _ _ c.loop-i.invariant c.loop-i-test.false

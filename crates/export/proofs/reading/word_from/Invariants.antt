@@ -1,0 +1,12 @@
+-- `word_from` goes from the last byte to the first, and takes the word so far 256 times: its loop keeps `Numbered`.
+use native.Mathlib.Omega.{arith}
+use Rattle.export.proofs.Tabling.{Numbered, numbered_start, numbered_room, numbered_step, numbered_end}
+use mathlib.Core.Path.{◌∙◌}
+use Rattle.std.proofs.Common.{rules}
+use Rattle.export.proofs.reading.word_from.Given as goal
+
+abbrev pub invariant-loop-k : goal.invariant-loop-k
+invariant-loop-k l = Numbered l.picture l.at l.word l.k
+
+abbrev pub decreases-loop-k : goal.decreases-loop-k
+decreases-loop-k l = l.k

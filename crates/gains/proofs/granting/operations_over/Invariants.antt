@@ -1,0 +1,15 @@
+-- The set is a union over the places of the table.
+use native.Mathlib.Omega.{arith}
+use Prim.Native.Nat.{◌-◌, ◌≤◌}
+use lib.ListN.{get_or}
+use Rattle.reach.specs.Tables.{no_rule}
+use Rattle.reach.proofs.Unions.{Union, union_none, union_add, union_end}
+use Rattle.gains.specs.Searching.{GrantsOver}
+use Rattle.std.proofs.Common.{rules}
+use Rattle.gains.proofs.granting.operations_over.Given as goal
+
+abbrev pub invariant-loop-i : goal.invariant-loop-i
+invariant-loop-i l = (l.i ≤ 64) × Union (λ j k. GrantsOver (get_or l.rules j no_rule) l.users l.targets k) l.i l.set
+
+abbrev pub decreases-loop-i : goal.decreases-loop-i
+decreases-loop-i l = 64 - l.i

@@ -1,0 +1,50 @@
+use mathlib.Core.Path.{◌≡◌, refl}
+use mathlib.Core.Bool.{false, false≢true}
+use native.Mathlib.Omega.{arith}
+use Prim.Native.Nat.{◌<◌}
+use lib.Count.{count_trailing_zeros}
+use lib.ListN.{get_or}
+use Rattle.reach.specs.Words.{bit}
+use Rattle.reach.proofs.Bits.{lowest_bit}
+use Rattle.reach.proofs.Testing.{decides_none, decides_some_at}
+use Rattle.reach.proofs.WordSets.{set_none, set_empty}
+use Rattle.reach.proofs.Gathering.{left_less, Picking, pick_start, pick_step, pick_end}
+use Rattle.std.proofs.Common.{rules}
+use Rattle.gains.proofs.handing.some_user.Goals as goal
+
+pub loop-left-init : goal.loop-left-init
+loop-left-init c = pick_start (search rules)
+
+pub overflow_cast-h : goal.overflow_cast-h
+overflow_cast-h c =
+    let low : (count_trailing_zeros 64 c.loop-left.left < 64) × (bit c.loop-left.left (count_trailing_zeros 64 c.loop-left.left) ≡ 1) = lowest_bit 64 _ c.loop-left-test.true c.loop-left.invariant.left_word in
+    omega (arith, low.0)
+
+pub bounds-sorts-h : goal.bounds-sorts-h
+bounds-sorts-h c =
+    let low : (count_trailing_zeros 64 c.loop-left.left < 64) × (bit c.loop-left.left (count_trailing_zeros 64 c.loop-left.left) ≡ 1) = lowest_bit 64 _ c.loop-left-test.true c.loop-left.invariant.left_word in
+    low.0
+
+pub returns-then-sorts-h-eq2 : goal.returns-then-sorts-h-eq2
+returns-then-sorts-h-eq2 c =
+    let low : (count_trailing_zeros 64 c.loop-left.left < 64) × (bit c.loop-left.left (count_trailing_zeros 64 c.loop-left.left) ≡ 1) = lowest_bit 64 _ c.loop-left-test.true c.loop-left.invariant.left_word in
+    decides_some_at (count_trailing_zeros 64 c.loop-left.left) low.0 (c.loop-left.invariant.within _ low.1, omega (arith, c.if-sorts-h-eq2.true))
+
+pub overflow_shl-left : goal.overflow_shl-left
+overflow_shl-left c =
+    let low : (count_trailing_zeros 64 c.loop-left.left < 64) × (bit c.loop-left.left (count_trailing_zeros 64 c.loop-left.left) ≡ 1) = lowest_bit 64 _ c.loop-left-test.true c.loop-left.invariant.left_word in
+    low.0
+
+pub loop-left-smaller : goal.loop-left-smaller
+loop-left-smaller c =
+    let low : (count_trailing_zeros 64 c.loop-left.left < 64) × (bit c.loop-left.left (count_trailing_zeros 64 c.loop-left.left) ≡ 1) = lowest_bit 64 _ c.loop-left-test.true c.loop-left.invariant.left_word in
+    left_less c.loop-left.invariant.left_word (count_trailing_zeros 64 c.loop-left.left) low.1
+
+pub loop-left-preserved : goal.loop-left-preserved
+loop-left-preserved c =
+    let low : (count_trailing_zeros 64 c.loop-left.left < 64) × (bit c.loop-left.left (count_trailing_zeros 64 c.loop-left.left) ≡ 1) = lowest_bit 64 _ c.loop-left-test.true c.loop-left.invariant.left_word in
+    pick_step false c.loop-left.invariant (count_trailing_zeros 64 c.loop-left.left) low.1 (decides_none (λ e. omega (arith, e, c.if-sorts-h-eq2.false)))
+    (set_none (λ x w. false≢true w.0))
+
+pub returns : goal.returns
+returns c = decides_none (λ w. set_empty (pick_end c.loop-left.invariant c.loop-left-test.false) refl w.place w.at)

@@ -1,0 +1,103 @@
+-- Unless he is a user and the place is on the table it gives nothing; nor unless he is among its users; nor if the rules that cover him have
+-- its operations over what its T is under; and else the search tells.
+use mathlib.Core.Path.{refl}
+use mathlib.Core.Bool.{true, false}
+use Prim.Native.Nat.{◌<◌}
+use native.Mathlib.Omega.{arith}
+use borrow.Author.Tests.{not-true, not-false}
+use Rattle.reach.specs.Tests.{Decides}
+use Rattle.reach.specs.Tables.{Sized, view}
+use Rattle.reach.specs.Reach.{User}
+use Rattle.reach.proofs.Lists.{length_mapped}
+use Rattle.reach.proofs.Testing.{decides_at, decides_and, decides_ltb, decides_none, refuted}
+use Rattle.reach.proofs.WordSets.{decides_has}
+use Rattle.reach.proofs.Meeting.{read_user, climbed}
+use Rattle.gains.specs.Lacking.{Above, LacksRuled}
+use Rattle.gains.specs.declared.Gain.TheVariants.{Permission, Nothing}
+use Rattle.gains.proofs.Outright.{new_rule, grant_own_gain, grant_gains_none}
+use Rattle.gains.proofs.Searched.{granted_users, grant_found}
+use Rattle.gains.proofs.Covering.{none_lacks_ruled}
+use Rattle.gains.proofs.Looking.{decides_found}
+use Rattle.std.proofs.Common.{rules}
+use Rattle.gains.proofs.own.grant_gains.Goals as goal
+
+pub returns-then-not-place-sender : goal.returns-then-not-place-sender
+returns-then-not-place-sender c =
+    let sized : Sized c.args.p = record {
+      sorts = search rules;
+      memberships = search rules;
+      appointments = search (rules, length_mapped);
+      rules = search (rules, length_mapped);
+    } in
+    grant_gains_none _ sized _ _ _ _ _
+    (refuted (decides_and _ _ (decides_ltb _ 64) (read_user c.args.p _ c.sort_in-sender.ensures)) c.if-not-place-sender.true)
+
+pub returns-then-not-has : goal.returns-then-not-has
+returns-then-not-has c =
+    let sized : Sized c.args.p = record {
+      sorts = search rules;
+      memberships = search rules;
+      appointments = search (rules, length_mapped);
+      rules = search (rules, length_mapped);
+    } in
+    let told : ((c).args.place < 64) × User (view (c).args.p) (c).args.u = (decides_and _ _ (decides_ltb _ 64) (read_user (c).args.p _ c.sort_in-sender.ensures)).sound c.if-not-place-sender.false in
+    let over : Above (c).args.p (c).args.u c.climb-over.result = climbed _ c.climb-over.ensures in
+    grant_own_gain _ sized _ _ _ _ _ false told.0 told.1
+    (decides_none (λ l. refuted (decides_at c.has.ensures (decides_has over _)) c.if-not-has.true l.among))
+
+pub returns-then-rule-operations_over-eq0 : goal.returns-then-rule-operations_over-eq0
+returns-then-rule-operations_over-eq0 c =
+    let sized : Sized c.args.p = record {
+      sorts = search rules;
+      memberships = search rules;
+      appointments = search (rules, length_mapped);
+      rules = search (rules, length_mapped);
+    } in
+    let told : ((c).args.place < 64) × User (view (c).args.p) (c).args.u = (decides_and _ _ (decides_ltb _ 64) (read_user (c).args.p _ c.sort_in-sender.ensures)).sound c.if-not-place-sender.false in
+    let over : Above (c).args.p (c).args.u c.climb-over.result = climbed _ c.climb-over.ensures in
+    grant_own_gain _ sized _ _ _ _ _ false told.0 told.1
+    (decides_none
+    (none_lacks_ruled _ told.1 over (climbed _ c.climb-above.ensures) c.operations_over.ensures (omega arith)
+    (omega arith)
+    (search rules)
+    c.if-rule-operations_over-eq0.true))
+
+pub returns-in-Permission : goal.returns-in-Permission
+returns-in-Permission c =
+    let sized : Sized c.args.p = record {
+      sorts = search rules;
+      memberships = search rules;
+      appointments = search (rules, length_mapped);
+      rules = search (rules, length_mapped);
+    } in
+    let told : (c.args.place < 64) × User (view c.args.p) c.args.u = (decides_and _ _ (decides_ltb _ 64) (read_user c.args.p _ c.sort_in-sender.ensures)).sound c.if-not-place-sender.false in
+    let over : Above c.args.p c.args.u c.climb-over.result = climbed _ c.climb-over.ensures in
+    let among = (decides_at c.has.ensures (decides_has over _)).sound c.if-not-has.false in
+    let finds = grant_found _ told.1 over
+    (granted_users c.args.p.rules c.granted-had.ensures (omega arith))
+    among
+    c.just.ensures
+    c.spread-got.ensures
+    (Permission c.in-Permission.y c.in-Permission.k)
+    c.in-Permission.ensures in
+    grant_own_gain _ sized _ _ _ _ _ true told.0 told.1 (decides_found (finds.sound refl))
+
+pub returns-in-Nothing : goal.returns-in-Nothing
+returns-in-Nothing c =
+    let sized : Sized c.args.p = record {
+      sorts = search rules;
+      memberships = search rules;
+      appointments = search (rules, length_mapped);
+      rules = search (rules, length_mapped);
+    } in
+    let told : (c.args.place < 64) × User (view c.args.p) c.args.u = (decides_and _ _ (decides_ltb _ 64) (read_user c.args.p _ c.sort_in-sender.ensures)).sound c.if-not-place-sender.false in
+    let over : Above c.args.p c.args.u c.climb-over.result = climbed _ c.climb-over.ensures in
+    let among = (decides_at c.has.ensures (decides_has over _)).sound c.if-not-has.false in
+    let finds = grant_found _ told.1 over
+    (granted_users c.args.p.rules c.granted-had.ensures (omega arith))
+    among
+    c.just.ensures
+    c.spread-got.ensures
+    Nothing
+    c.in-Nothing.ensures in
+    grant_own_gain _ sized _ _ _ _ _ false told.0 told.1 (decides_none (refuted finds refl))

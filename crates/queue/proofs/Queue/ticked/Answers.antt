@@ -1,0 +1,46 @@
+-- Each return is one row of `after_tick`.
+use mathlib.Core.Path.{sym, ap, ◌∙◌}
+use Prim.Native.Nat.{◌-◌}
+use native.Mathlib.Omega.{arith}
+use borrow.Author.Tests.{not-true, not-false}
+use Rattle.std.proofs.Common.{rules}
+use Rattle.queue.specs.declared.rows.Row.{Row}
+use Rattle.queue.specs.Rows.{held_queue}
+use Rattle.queue.proofs.Saying.{sound_record}
+use Rattle.queue.proofs.Stepping.{tick_free, tick_last, tick_more}
+use Rattle.queue.proofs.Queue.ticked.Goals as goal
+
+pub returns-then-not-is_held : goal.returns-then-not-is_held
+returns-then-not-is_held c =
+    let asked = c.is_held in
+    sym (tick_free _ _ (sym asked.ensures ∙ c.if-not-is_held.true))
+
+pub call-requires : goal.call-requires
+call-requires c =
+    let asked = c.is_held in
+    (sound_record _ (sym asked.ensures ∙ c.if-not-is_held.false)).few
+
+pub returns-then-self-eq1 : goal.returns-then-self-eq1
+returns-then-self-eq1 c =
+    let asked = c.is_held in
+    c.call.ensures
+    ∙ sym (tick_last _ _ (sym asked.ensures ∙ c.if-not-is_held.false)
+    (omega (arith, c.if-self-eq1.true)))
+
+pub overflow_sub-self : goal.overflow_sub-self
+overflow_sub-self c =
+    let asked = c.is_held in
+    (sound_record _ (sym asked.ensures ∙ c.if-not-is_held.false)).some
+
+pub those-requires : goal.those-requires
+those-requires c =
+    let asked = c.is_held in
+    (omega arith, (sound_record _ (sym asked.ensures ∙ c.if-not-is_held.false)).few)
+
+pub returns : goal.returns
+returns c =
+    let asked = c.is_held in
+    let q = c.args.self in
+    c.given.ensures ∙ ap (λ (r : Row). held_queue q q.holder (q.left - 1) r) c.those.ensures
+    ∙ sym (tick_more _ _ (sym asked.ensures ∙ c.if-not-is_held.false)
+    (λ e. omega (arith, c.if-self-eq1.false, e)))

@@ -1,0 +1,6 @@
+-- The judge is asked for operation 2.
+use Rattle.std.proofs.Common.{rules}
+use Rattle.queue.proofs.events.refusal.Goals as goal
+
+pub returns : goal.returns
+returns c = c.use_code.ensures

@@ -1,0 +1,18 @@
+-- What is in the row and those from i on are all of them.
+use mathlib.Core.Path.{◌≡◌, refl, ◌∙◌}
+use mathlib.Core.List.{[]}
+use Prim.Native.Nat.{◌+◌, ◌-◌, ◌≤◌}
+use native.Mathlib.Omega.{arith}
+use lib.ListN.{length}
+use lib.Seq.{slice}
+use Rattle.std.proofs.Common.{rules}
+use Rattle.queue.specs.Rows.{row_of}
+use Rattle.queue.proofs.Placing.{add_all, all_more, all_end}
+use Rattle.queue.proofs.rows.those.Given as goal
+
+abbrev pub invariant-loop-i : goal.invariant-loop-i
+invariant-loop-i l =
+    (l.row.count + l.from ≡ l.i) × (l.i ≤ l.to) × (add_all l.row (slice l.i l.to l.a) ≡ add_all (row_of []) (slice l.from l.to l.a))
+
+abbrev pub decreases-loop-i : goal.decreases-loop-i
+decreases-loop-i l = l.to - l.i

@@ -1,0 +1,19 @@
+-- `load` comes to what the whole card comes to: at each turn the rest of it, read into the policy of the four tables, comes to that.
+-- Each record that is stored takes one step.
+use mathlib.Core.Path.{sym, ◌∙◌}
+use Prim.Native.Nat.{◌-◌}
+use native.Mathlib.Omega.{arith}
+use lib.ListN.{length}
+use borrow.Author.Tests.{not-true, not-false}
+use Rattle.snapshot.proofs.Stepping.{number_small, PartRead, tabled, store_tabled, loading_start}
+use Rattle.snapshot.proofs.Stepping.{loading_end, loading_unfit, loading_fallen, record_inside, loading_next}
+use Rattle.std.proofs.Common.{rules}
+use Rattle.snapshot.proofs.reading.load.Given as goal
+
+abbrev pub invariant-loop-at : goal.invariant-loop-at
+invariant-loop-at l =
+    PartRead l.kept l.card (tabled l.sorts l.memberships l.appointments l.rules) l.n l.at
+
+abbrev pub decreases-loop-at : goal.decreases-loop-at
+decreases-loop-at l =
+    length l.card - l.at

@@ -1,0 +1,30 @@
+use native.Mathlib.Omega.{arith}
+use Rattle.snapshot.proofs.Rowing.{rest_less, lowest_low, Rowing, rowing_start}
+use Rattle.snapshot.proofs.Rowing.{rowing_needed, rowing_length, rowing_next, rowing_end}
+use Rattle.std.proofs.Common.{rules}
+use Rattle.snapshot.proofs.writing.pen_row.Goals as goal
+
+pub loop-left-init : goal.loop-left-init
+loop-left-init c = rowing_start _ _ _ _ (search rules)
+
+pub pen_entry-so_far-requires : goal.pen_entry-so_far-requires
+pen_entry-so_far-requires c = let few = rowing_needed _ _ c.loop-left.invariant in omega (arith, few, c.requires)
+
+pub overflow_cast-left : goal.overflow_cast-left
+overflow_cast-left c = search (rules, lowest_low _ c.loop-left-test.true c.loop-left.invariant.word)
+
+pub overflow_shl-left : goal.overflow_shl-left
+overflow_shl-left c = search (rules, lowest_low _ c.loop-left-test.true c.loop-left.invariant.word)
+
+pub loop-left-smaller : goal.loop-left-smaller
+loop-left-smaller c = rest_less _ c.loop-left-test.true c.loop-left.invariant.word
+
+pub loop-left-preserved : goal.loop-left-preserved
+loop-left-preserved c =
+    rowing_next _ _ c.loop-left.invariant c.loop-left-test.true c.pen_entry-so_far.ensures (omega arith) (omega arith)
+
+pub shape_of-out : goal.shape_of-out
+shape_of-out c = rowing_length _ _ c.loop-left.invariant
+
+pub returns : goal.returns
+returns c = rowing_end _ _ c.loop-left.invariant c.loop-left-test.false

@@ -1,0 +1,12 @@
+-- Group by group, the lowest first: what is left of the set has just the groups from a place on, and those before it are penned.
+use native.Mathlib.Omega.{arith}
+use Rattle.snapshot.proofs.Rowing.{rest_less, lowest_low, Rowing, rowing_start}
+use Rattle.snapshot.proofs.Rowing.{rowing_needed, rowing_length, rowing_next, rowing_end}
+use Rattle.std.proofs.Common.{rules}
+use Rattle.snapshot.proofs.writing.pen_row.Given as goal
+
+abbrev pub invariant-loop-left : goal.invariant-loop-left
+invariant-loop-left l = Rowing l.groups l.x l.initial.out l.initial.so_far l.left l.out l.so_far
+
+abbrev pub decreases-loop-left : goal.decreases-loop-left
+decreases-loop-left l = l.left
