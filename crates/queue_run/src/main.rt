@@ -79,8 +79,8 @@ fn answer(input: &[u8; 65537], read: usize, text: &mut [u8; 655360]) -> usize
     output(buffer, text)
 }
 
-// Reads the records, and prints what is told of all of them: of an input that is too long, only that it is. An error prints nothing, or is
-// that of the printing.
+// Reads the records, and prints what is told of all of them: of an input that is too long, only that it is. An error
+// prints nothing, or is that of the printing.
 fn run<R: Read, W: Write>(reader: &mut R, writer: &mut W) -> io::Result<()>
     ensures { OnOk result (IfSome (R.remaining reader.old) (λ records.
         Appends (W.contents writer.old) (W.contents writer.new) (output records))) }
