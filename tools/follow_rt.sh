@@ -116,7 +116,7 @@ note() { # LINE
 # are a proof.
 follow() { # CRATE COMMAND
     local line part='' status
-    mkdir -p target/log
+    mkdir -p target/log 2> /dev/null
     start_rt "crates/$1" "${@:2}"
     while true; do
         IFS= read -r -t 2 line <&3
