@@ -7,9 +7,9 @@
 Every table row is `| id | first words | carried by | would notice |`, the id as 01:keeps.6.
 Names in backticks, in the last two columns:
     Tables.sort                  a definition in crates/*/specs/Tables.antt
-    proofs/Reaching.under-trans  a law in crates/*/proofs/**/Reaching.antt
+    proofs/Reaching.under_trans  a law in crates/*/proofs/**/Reaching.antt
     reach::Policy::put           a function (or reach::Policy, a type) in crates/reach/src/*.rt
-    must-fail/name               crates/*/must-fail/name.edit, or name.edit in its folder quick/
+    must-fail/name               crates/*/must-fail/name.edit
     D7                           an entry `D7.` of docs/DECISIONS.md, as a line or a heading
     docs/a.md, crates/reach/     a path of the repository
 
@@ -61,7 +61,7 @@ def promises(path, number):
     """What the ensures clauses of the function at a line say: those between its parameters and its body."""
     text = re.sub(r"//.*", "", "\n".join(path.read_text("utf-8").splitlines()[number - 1:]))
     said, opened, clause, start = [], 0, "", 0
-    for brace in re.finditer(r"(?:\b(requires|ensures)\s*)?\{|\}", text):
+    for brace in re.finditer(r"(?:\b(requires|ensures)\b(?:\s+\w+)?\s*)?\{|\}", text):
         if brace[0] == "}":
             opened -= 1
             if not opened and clause == "ensures":
@@ -95,7 +95,7 @@ def unkept(root, cell):
 def unsaid(path, number, definition):
     """What a contract lacks of a definition: its name as a word, and that the file takes this name from the definition's module."""
     module, name = definition[1], re.escape(definition[2])
-    if not re.search(rf"(?<![\w.·′-]){name}(?![\w·′-])", promises(path, number)):
+    if not re.search(rf"(?<![\w.']){name}(?![\w'])", promises(path, number)):
         return [f"expected {definition[2]} in an ensures clause"]
     if not re.search(rf"^ghost use \S+\.{module}\.\{{(.*, )?{name}[,}}]", path.read_text("utf-8"), re.M):
         return [f"expected {definition[2]} to be that of {module} in the contract"]
@@ -112,7 +112,7 @@ def missing(root, name):
     if m := re.fullmatch(r"proofs/(\w+)\.([^\s./`]+)", name):
         return among(f"crates/*/proofs/**/{m[1]}.antt", declared, m[2])
     if m := re.fullmatch(r"must-fail/([\w-]+)", name):
-        return among(f"crates/*/must-fail/**/{m[1]}.edit")
+        return among(f"crates/*/must-fail/{m[1]}.edit")
     if m := FUNCTION.fullmatch(name):
         return among(f"crates/{m[1]}/src/*.rt", functions, m[2])
     if re.fullmatch(r"D\d+", name):
@@ -173,18 +173,18 @@ def check(root):
 def self_test():
     files = {
         "crates/reach/specs/Tables.antt": "-- [01:keeps.2]\nabbrev pub sort : T\nstored : T\ndata S : T where\n  group gear : S\n-- gone : T\n",
-        "crates/reach/proofs/deep/Reaching.antt": "pub under-trans : {x : T} → U\nunder-trans = go (left : T)\n",
+        "crates/reach/proofs/deep/Reaching.antt": "pub under_trans : {x : T} → U\nunder_trans = go (left : T)\n",
         "crates/reach/src/lib.rt":
-            "ghost use Rattle·reach·specs.specs.Tables.{sort, stored, gear};\n"
-            "impl Policy {\n    pub fn put(self) -> u8\n        requires { ⌜ gear ⌝ }\n        ensures { λ r. ⌜ r ≡ sort { a } ⌝ }\n"
-            "        ensures { λ r. ⌜ p .gear ≡ gears // gear\n            stored ⌝ }\n    {\n        gear\n    }\n}\n"
-            'pub fn top()\n    ensures { λ r. ⌜ sort ⌝ }\n{\n}\npub extern "C" fn lent() {\n    ensures { gear }\n}\n// fn gone()\n',
-        "crates/reach/must-fail/wrong-one.edit": "", "crates/reach/must-fail/quick/wrong-two.edit": "",
+            "ghost use Rattle.reach.specs.Tables.{sort, stored, gear};\n"
+            "impl Policy {\n    pub fn put(self) -> u8\n        requires { gear }\n        ensures value { result ≡ sort { a } }\n"
+            "        ensures rest { p.gear ≡ gears // gear\n            stored }\n    {\n        gear\n    }\n}\n"
+            'pub fn top()\n    ensures { sort }\n{\n}\npub extern "C" fn lent() {\n    ensures { gear }\n}\n// fn gone()\n',
+        "crates/reach/must-fail/wrong-one.edit": "", "crates/reach/must-fail/wrong-two.edit": "",
         "docs/DECISIONS.md": "D1. One.\n## D2. Two.\nSee D3. Three.\n",
         MAP: "# Map\n| id | first words | carried by | would notice |\n|---|---|---|:--|\n"
              "| 01:keeps.1 | a `b` | `Tables.sort`, `Tables.gear` and `D1` | `must-fail/wrong-one` `must-fail/wrong-two` `D2` |\n"
              "| 01:keeps.2 | b | | |\n| 01:keeps.3 | c | not yet | |\n| 01:who.1 | d | scope | |\n"
-             "| 01:who.2 | e | `reach::Policy::put` `reach::top` `reach::lent` | `proofs/Reaching.under-trans` `docs/MAP.md` `docs/` |\n"
+             "| 01:who.2 | e | `reach::Policy::put` `reach::top` `reach::lent` | `proofs/Reaching.under_trans` `docs/MAP.md` `docs/` |\n"
              "| 01:who.3 | f | `Tables.sort` and `Tables.stored`, in the contract of `reach::Policy::put`, too | that contract |\n"
              "| 01:who.4 | g | `D1`; `Tables.sort` in the contracts of `reach::top` and `reach::Policy::put`; `D2` | |\n"}
     cases = [  # an edit, and what the first error then says; the first case is the map as it should be
@@ -194,16 +194,16 @@ def self_test():
         ("not yet", "later", "MAP.md:6: 01:keeps.3: in no specs file"), ("`D1`", "`D3`", "`D3`: no such entry"),
         ("`D1`", "`Tables`", "not a form"), ("`D1`", "``", "not a form"), ("`docs/`", "`../`", "not a form"),
         ("Tables.sort", "Tables.gone", "no gone in"), ("Tables.sort", "Table.sort", "no file crates/*/specs/Table.antt"),
-        ("must-fail/wrong-one", "must-fail/other", "no file crates/*/must-fail/**/other.edit"),
+        ("must-fail/wrong-one", "must-fail/other", "no file crates/*/must-fail/other.edit"),
         ("Policy::put", "put", "no put in"), ("reach::top", "reach::gone", "no gone in"),
-        ("Reaching.under-trans", "Reaching.left", "no left in"), ("docs/MAP.md", "docs/NO.md", "no such path"),
+        ("Reaching.under_trans", "Reaching.left", "no left in"), ("docs/MAP.md", "docs/NO.md", "no such path"),
         ("Tables.stored`, in", "Tables.gear`, in",
          "MAP.md:9: 01:who.3: expected gear in an ensures clause of `reach::Policy::put`, crates/reach/src/lib.rt:3"),
         ("Tables.sort` in", "Tables.stored` in", "MAP.md:10: 01:who.4: expected stored in an ensures clause of `reach::top`"),
         ("reach::Policy::put`, too", "reach::lent`, too", "expected sort in an ensures clause of `reach::lent`"),
-        ("ensures { λ r. ⌜ sort", "requires { ⌜ sort", "01:who.4: expected sort in an ensures clause of `reach::top`"),
+        ("ensures { sort", "requires { sort", "01:who.4: expected sort in an ensures clause of `reach::top`"),
         ("Tables.{sort, ", "Reach.{sort};\nghost use Tables.{", "01:who.3: expected sort to be that of Tables in the contract"),
-        ("`Tables.sort` in", "`proofs/Reaching.under-trans` in", "not a definition"), ("`Tables.sort` in", "in", "not of the form"),
+        ("`Tables.sort` in", "`proofs/Reaching.under_trans` in", "not a definition"), ("`Tables.sort` in", "in", "not of the form"),
         ("`Tables.sort` in", "`Tables.sort` is in", "not of the form"), ("`reach::top` and", "`D1` and", "`D1`: not a function"),
         ("keeps.2]", "keeps.2, 01:keeps.9]", "Tables.antt:1: [01:keeps.9] is no id"),
         ("[01:keeps.2]", "[01:keeps.1]", "MAP.md:5: 01:keeps.2: in no specs file")]

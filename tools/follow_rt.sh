@@ -1,44 +1,48 @@
 # shellcheck shell=bash
-# For tools/prove: runs rt in a process group of its own, follows what it prints, and puts a failure in one sentence.
+# For tools/prove: runs rt in a session of its own, follows what it prints, and puts a failure in one sentence.
 # That a proof failed is said of nothing else: of a crate whose check ended with status 1 and `logic=not-proved`.
 
-group=''        # the process group of rt, while it runs; `waited` is another process that this command waits for
+session=''      # the session of rt, while it runs; `waited` is another process that this command waits for
 last_lines=()   # the last lines that rt printed, but for those that are put in other words here
-refuted=''      # the first crate whose proof failed
-troubled=''     # the first crate that failed otherwise, and its status
-trouble=0
-unrun=''        # the program whose trial run failed
+crate=''        # the crate that rt is at
+began=0         # when rt came to it
+proved=''       # whether it is proved
+unproved=''     # whether the check of it said that it is not
+unbuilt=''      # the library that rt could not make, and the crates above it for that
+refused=''      # whether the quick pass over the text, before any proof, ended it
+ran=''          # whether rt came to the trial run of the program
 
-# Whether a process of rt's group is left; one that has ended, with all its threads, may still be listed as a zombie.
-group_lives() {
+# Whether a process of rt's session is left; one that has ended, with all its threads, may still be listed as a zombie.
+session_lives() {
     local file line fields
     for file in /proc/[0-9]*/stat; do
         { IFS= read -r -d '' line < "$file"; } 2> /dev/null
-        read -r -a fields <<< "${line##*) }" # state, parent, group, .., number of threads
-        [ "${fields[2]:-}" = "$group" ] || continue
+        read -r -a fields <<< "${line##*) }" # state, parent, group, session, .., number of threads
+        [ "${fields[3]:-}" = "$session" ] || continue
         if [ "${fields[0]}" != Z ] || [ "${fields[17]:-1}" -gt 1 ]; then return 0; fi
     done
     return 1
 }
 
-# Ends all processes of rt's group, and comes back when they are gone.
-end_group() {
+# Ends rt, and comes back when all processes of its session are gone. The prover is in a group of its own, which ends
+# when rt does.
+end_session() {
     local signal turn
-    [ -n "$group" ] || return 0
+    [ -n "$session" ] || return 0
     for signal in TERM KILL; do
-        kill -"$signal" -- -"$group" 2> /dev/null
+        kill -"$signal" -- -"$session" 2> /dev/null
         for ((turn = 0; turn < 50; turn++)); do
-            if ! group_lives; then return; fi
+            if ! session_lives; then return; fi
             sleep 0.05
         done
     done
 }
 
-# Starts rt in a group of its own, with its output on descriptor 3. A watcher in the group ends it, and removes its
+# Starts rt in a session of its own, with its output on descriptor 3. A watcher in its group ends it, and removes its
 # temporary files, if this command is killed outright.
 # shellcheck disable=SC2016,SC2154
-start_rt() { # WORDS..
-    exec 3< <(exec 9<&- && LC_ALL=C TMPDIR="$work" exec setsid bash -c '
+start_rt() { # FOLDER WORDS..
+    exec 3< <(exec 9<&- && cd -- "$1" && LC_ALL=C TMPDIR="$work" exec setsid bash -c '
         exec < /dev/null 2> /dev/null
         (
             exec > /dev/null 7<> <(:)
@@ -51,22 +55,22 @@ start_rt() { # WORDS..
         status=$?
         kill "$!"
         wait
-        exit "$status"' "$$" "$@")
-    group=$!
+        exit "$status"' "$$" "${@:2}")
+    session=$!
 }
 
 # The exit status of rt, once it has closed its output.
 end_rt() {
     local status
-    wait "$group"
+    wait "$session"
     status=$?
-    group=''
+    session=''
     return "$status"
 }
 
 # Runs rt with its own output and status.
 pass_on() { # WORDS..
-    start_rt "$@"
+    start_rt . "$@"
     cat <&3 9<&- &
     exec 3<&-
     waited=$!
@@ -75,34 +79,45 @@ pass_on() { # WORDS..
     end_rt
 }
 
-# What a line of rt says about a crate. `unproved` tells whether the crate at hand has a line `logic=not-proved`.
+# What a line of rt says about the crate that it is at. All that is said of a crate is kept in a file.
 note() { # LINE
-    local proved='^rt: ([^ ]+) proved \(([0-9]+) s\)$' failed='^rt: ([^ ]+) NOT PROVED \(exit ([0-9]+), [0-9]+ s\)$'
-    if [[ $1 =~ $proved ]]; then
-        say "${BASH_REMATCH[1]} proved, ${BASH_REMATCH[2]} s"
+    local begins='^rt: chose --jobs [0-9]+ for ([^ ]+)$' lost='^rt: the library ([^ ]+) did not build'
+    local shared='^rt: [^ ]+: begins with what a check kept in ' waits='^rt: (.*waiting for .*)$'
+    local counts='^((statements|library|crate) [^ ]+: modules|logic |only=|axioms |linked |[a-z]+ [^ ]+: proved$)'
+    if [[ $1 =~ $begins ]]; then
+        crate="${BASH_REMATCH[1]}" began=$SECONDS proved='' unproved=''
+        { : > "target/log/$crate.out"; } 2> /dev/null
         return
-    elif [[ $1 =~ $failed ]]; then
-        if [ "${BASH_REMATCH[2]}" = 1 ] && [ "$unproved" = yes ]; then
-            refuted="${refuted:-${BASH_REMATCH[1]}}"
-        elif [ -z "$troubled" ]; then
-            troubled="${BASH_REMATCH[1]}" trouble="${BASH_REMATCH[2]}"
-        fi
-        unproved=no
+    elif [[ $1 =~ $waits ]]; then
+        say "${BASH_REMATCH[1]}"
+        return
+    elif [[ $1 =~ $shared || $1 = 'rt: nothing has changed since '* ]]; then
+        return
+    elif [[ $1 = 'rt: running out/'* ]]; then
+        ran=yes
+        return
+    elif [[ $1 = 'logic=proved '* ]]; then
+        proved=yes
+        if [ -n "$crate" ]; then say "$crate proved, $((SECONDS - began)) s"; fi
     elif [[ $1 = 'logic=not-proved'* ]]; then
         unproved=yes
-    elif [[ $1 =~ ^'rt: '([^ ]+)' proved, and its run FAILED' ]]; then
-        unrun="${BASH_REMATCH[1]}"
-    elif [[ $1 = 'rt: '*' proved (unchanged since it was last proved)' ]]; then
-        return
+    elif [[ $1 =~ $lost ]]; then
+        unbuilt="${BASH_REMATCH[1]}"
+    elif [[ $1 = 'rt: mend these first: '* ]]; then
+        refused=yes
     fi
+    if [ -n "$crate" ] && [ -z "$unbuilt$ran" ]; then { printf '%s\n' "$1" >> "target/log/$crate.out"; } 2> /dev/null; fi
+    [[ ! $1 =~ $counts ]] || return 0
     last_lines+=("$1")
     [ ${#last_lines[@]} -le 20 ] || last_lines=("${last_lines[@]:1}")
 }
 
-# Runs rt, says what is proved as it is proved, and returns the status of rt. Two seconds of silence are a proof.
-follow() { # COMMAND CRATE
-    local line part='' status unproved=no
-    start_rt "$@"
+# Runs rt in a crate's folder, says what is proved as it is proved, and returns the status of rt. Two seconds of silence
+# are a proof.
+follow() { # CRATE COMMAND
+    local line part='' status
+    mkdir -p target/log
+    start_rt "crates/$1" "${@:2}"
     while true; do
         IFS= read -r -t 2 line <&3
         status=$?
@@ -117,7 +132,6 @@ follow() { # COMMAND CRATE
         fi
     done
     exec 3<&-
-    [ "$unproved" = no ] || refuted="${refuted:-${!#}}"
     end_rt
 }
 
@@ -134,7 +148,7 @@ full() {
 # The reason for a failure that is no failed proof, as far as the last lines of rt tell it.
 reason() {
     case "${last_lines[*]}" in
-    *'No space left on device'* | *'Disk quota exceeded'*) echo "there is no room left on the disk" ;;
+    *'No space left on device'* | *'Disk quota exceeded'* | *'the disk is full'*) echo "there is no room left on the disk" ;;
     *'Read-only file system'*) echo "the disk can only be read" ;;
     *'Permission denied'*) echo "a file may not be read or written" ;;
     *'File too large'*) echo "a file is larger than it may be" ;;
@@ -145,28 +159,34 @@ reason() {
 
 # The last lines of rt, and below them one sentence on why it failed; ends this command.
 explain() { # WHAT STATUS
-    local why
+    local why at="${unbuilt:-$crate}"
     [ ${#last_lines[@]} -eq 0 ] || printf '%s\n' "${last_lines[@]}" >&2
-    if [ -n "$refuted" ]; then
-        fail 1 "the proof of $refuted failed, so $1 is not proved (target/log/$refuted.out has what the prover said)"
+    if [ -n "$ran" ]; then
+        fail 2 "$crate is proved, but its trial run failed, so $1 is not ready"
+    elif [ "$2" -eq 1 ] && [ -n "$unproved" ]; then
+        fail 1 "the proof of $at failed, so $1 is not proved (target/log/$at.out has what the prover said)"
     elif why="$(reason)"; then
         fail 2 "$1 could not be proved: $why"
-    elif [ -n "$unrun" ]; then
-        fail 2 "$unrun is proved, but its trial run failed, so $1 is not ready"
-    elif [ -n "$troubled" ]; then
-        explain_trouble "$1"
-    elif [ "$2" -gt 128 ]; then
+    elif [ -n "$refused" ]; then
+        fail 2 "the compiler does not take the text, so no proof of it was tried"
+    elif [ "$2" -gt 128 ] && [ "$2" -lt 192 ]; then
         fail 2 "rt was ended by signal $(($2 - 128)), so $1 could not be proved"
+    elif [ -n "$at" ] && [ -n "$proved" ]; then
+        fail 2 "$at is proved, but it could not be built, so $1 is not ready"
+    elif [ -n "$at" ]; then
+        explain_trouble "$1" "$at" "$2"
     fi
     fail 2 "rt failed with status $2, so $1 could not be proved"
 }
 
-explain_trouble() { # WHAT
-    case $trouble in
-    1) fail 2 "the compiler does not take $troubled, so no proof of it was tried" ;;
-    3) fail 3 "the prover could not tell whether $troubled holds, so $1 is neither proved nor refuted" ;;
-    137) fail 2 "the prover was killed at $troubled, perhaps for want of memory, so $1 could not be proved" ;;
-    1[3-9]? | 129) fail 2 "the prover was ended by signal $((trouble - 128)) at $troubled, so $1 could not be proved" ;;
+# The same where the check of a crate ended with a status that is no failed proof. A prover that a signal ends has that
+# signal's number below 256 for its status.
+explain_trouble() { # WHAT CRATE STATUS
+    case $3 in
+    1) fail 2 "the compiler does not take $2, so no proof of it was tried" ;;
+    3) fail 3 "the prover could not tell whether $2 holds, so $1 is neither proved nor refuted" ;;
+    247) fail 2 "the prover was killed at $2, perhaps for want of memory, so $1 could not be proved" ;;
+    19[2-9] | 2[0-9][0-9]) fail 2 "the prover was ended by signal $((256 - $3)) at $2, so $1 could not be proved" ;;
     esac
-    fail 2 "the prover failed at $troubled with status $trouble, so $1 could not be proved"
+    fail 2 "the prover failed at $2 with status $3, so $1 could not be proved"
 }

@@ -52,9 +52,10 @@ def is_fresh() -> bool:
 
 
 def has_younger(folder: str, made: float) -> bool:
-    """True if something in a folder is younger than a time."""
+    """True if something in a folder is younger than a time; what the kit makes in the folder out/ of a crate is not."""
     with os.scandir(folder) as entries:
-        return any(entry.stat().st_mtime > made or entry.is_dir() and has_younger(entry.path, made)
+        return any(entry.name != "out" and (entry.stat().st_mtime > made or
+                                            entry.is_dir() and has_younger(entry.path, made))
                    for entry in entries)
 
 

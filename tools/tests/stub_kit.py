@@ -2,6 +2,7 @@
 
 import fcntl
 import os
+import re
 import shutil
 import signal
 import subprocess
@@ -13,28 +14,38 @@ from pathlib import Path
 ROOT = Path(__file__).resolve().parent.parent.parent
 SECONDS = 20  # the time within which whatever a test waits for must happen
 
-# The stub fails if another one runs in the same folder, notes how it was called, and then does what the test says.
+# The stub fails if another one runs in the same folder, notes how it was called and in which crate's folder, and then
+# does what the test says.
 STUB_RT = """#!/bin/sh
 exec 8> "$STUB/lock"
 flock -n 8 || { : > "$STUB/clash"; echo 'rt: two at once'; exit 2; }
+case $PWD in */crates/*) printf '%s: ' "${PWD##*/}" ;; esac >> "$STUB/calls"
 echo "$*" >> "$STUB/calls"
 . "$STUB/script"
 """
 
-# What the stub does unless a test says otherwise: proves, and makes a program that prints its input.
+# What the stub does unless a test says otherwise: proves, makes a program that prints its input, and runs it.
 GOOD = """
-mkdir -p target/bin target/stamp target/rlib/reach.rlib target/log
-echo 'rt: frame proved (unchanged since it was last proved)'
+case $PWD in */crates/runner) ;; *) exit 0 ;; esac
+mkdir -p out ../reach/out/rlib
+echo 'rt: frame: begins with what a check kept in /another/crates/frame'
+echo 'rt: chose --jobs 2 for reach'
 echo 'fn reach::above: proved'
-echo 'rt: reach proved (42 s)'
-[ -e target/bin/runner ] || printf '#!/bin/sh\\nexec cat\\n' > target/bin/runner
-chmod +x target/bin/runner
-echo 'rt: runner proved (3 s)'
-echo 'rt: ok, 3 crates proved'
-: > target/stamp/reach
+echo 'statements std: modules loaded=5 checked=0'
+echo 'logic=proved functions=1 sum=dac8208d650f15bf'
+: > ../reach/out/rlib/stamp
+echo 'rt: chose --jobs 2 for runner'
+echo 'logic=proved functions=2 axioms=2'
+[ -e out/runner ] || printf '#!/bin/sh\\nexec cat\\n' > out/runner
+chmod +x out/runner
+echo 'rt: running out/runner; to give it other input, run that file yourself'
+out/runner
 """
 DATA = bytes(range(256)) * 3  # an input with every byte
-UNCHANGED = "echo 'rt: reach proved (unchanged since it was last proved)'\n"
+UNCHANGED = """
+echo 'rt: nothing has changed since the last proved build, by out/runner.stamp, so nothing is checked now'
+echo 'rt: running out/runner; to give it other input, run that file yourself'
+"""
 
 # A process below rt that outlives a plain end of rt, and whose number the test can read.
 WITH_GRANDCHILD = """
@@ -163,6 +174,11 @@ class StubBoard(StubKit):
         self.assertEqual((status, output), (2, b""), said)
         self.assertRegex(said, r"\Aboard: [^\n]*\n\Z")
         return said[len("board: "):-1]
+
+
+def untimed(said):
+    """What was said, without the seconds that each proof took."""
+    return re.sub(r" proved, \d+ s$", " proved, N s", said, flags=re.MULTILINE)
 
 
 def lives(number):

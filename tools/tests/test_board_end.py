@@ -3,7 +3,7 @@
 import signal
 import subprocess
 
-from tests.stub_kit import DATA, GOOD, SECONDS, WITH_GRANDCHILD, StubBoard, lives
+from tests.stub_kit import DATA, GOOD, SECONDS, WITH_GRANDCHILD, StubBoard, lives, untimed
 
 
 class Lost(StubBoard):
@@ -28,7 +28,7 @@ class Lost(StubBoard):
 
     def test_dying_program(self):
         """A program that dies, or that cannot be run."""
-        runner = self.repository / "target/bin/runner"
+        runner = self.repository / "crates/runner/out/runner"
         for text, sentence in (
             ("#!/bin/sh\nkill -SEGV $$\n", "the program was ended by signal 11, so there are no answers, or not all"),
             ("#!/bin/sh\nexit 3\n", r"target/bin/runner could not be run \(status 3\)"),
@@ -40,7 +40,7 @@ class Lost(StubBoard):
 
     def test_failed_proof(self):
         """A board that is not proved is not run."""
-        self.script("echo logic=not-proved; echo 'rt: judge NOT PROVED (exit 1, 5 s)'; exit 1\n")
+        self.script("echo 'rt: chose --jobs 2 for judge'; echo logic=not-proved; exit 1\n")
         status, output, said = self.run_board("requests")
         self.assertEqual((status, output), (1, b""))
         self.assertEqual(said.splitlines()[-1], "board: the proof of judge failed, so the board is not proved "
@@ -50,12 +50,13 @@ class Lost(StubBoard):
 
     def test_first_time(self):
         """The lines of the proofs are on standard error, and the answers alone on standard output."""
-        (self.repository / "target/stamp/reach").unlink()
+        (self.repository / "crates/reach/out/rlib/stamp").unlink()
         self.script(GOOD)
         status, output, said = self.run_board("requests")
         self.assertEqual((status, output), (0, DATA))
-        self.assertEqual(said, "board: proving and building the board, which takes about three minutes the first time\n"
-                               "board: reach proved, 42 s\nboard: runner proved, 3 s\n")
+        self.assertEqual(untimed(said),
+                         "board: proving and building the board, which takes about three minutes the first time\n"
+                         "board: reach proved, N s\nboard: runner proved, N s\n")
 
 
 class Ending(StubBoard):
@@ -80,7 +81,7 @@ class Ending(StubBoard):
         process.send_signal(signal.SIGTERM)
         self.assertEqual(process.wait(SECONDS), 143)
         self.assertEqual(list(self.temporary.iterdir()), [])
-        self.program(self.repository / "target/bin/runner", '#!/bin/sh\necho "$$" > "$STUB/runner"; exec yes\n')
+        self.program(self.repository / "crates/runner/out/runner", '#!/bin/sh\necho "$$" > "$STUB/runner"; exec yes\n')
         process = self.start(self.board, "requests", cwd=self.folder)
         self.await_(lambda: (self.stub / "runner").exists() and (self.stub / "runner").read_text(), "the program")
         process.send_signal(signal.SIGTERM)

@@ -2,7 +2,7 @@
 
 import signal
 
-from tests.stub_kit import GOOD, SECONDS, UNCHANGED, WITH_GRANDCHILD, StubKit, lives
+from tests.stub_kit import GOOD, SECONDS, UNCHANGED, WITH_GRANDCHILD, StubKit, lives, untimed
 
 FIRST_TIME = "prove: proving and building the board, which takes about three minutes the first time\n"
 WAITING = "prove: another command is proving or building in this folder; waiting for it to end\n"
@@ -18,9 +18,10 @@ class Proving(StubKit):
 
     def test_first_time(self):
         """What takes minutes is announced, and each crate that is proved has its line on standard error."""
-        lines = f"{FIRST_TIME}prove: reach proved, 42 s\nprove: runner proved, 3 s\n"
-        self.assertEqual(self.prove("program"), (0, b"", lines))
-        self.assertEqual(self.calls(), ["check runner"])
+        status, output, said = self.prove("program")
+        lines = f"{FIRST_TIME}prove: reach proved, N s\nprove: runner proved, N s\n"
+        self.assertEqual((status, output, untimed(said)), (0, b"", lines))
+        self.assertEqual(self.calls(), ["runner: run"])
 
     def test_up_to_date(self):
         """Nothing is printed where all is proved."""
@@ -42,23 +43,42 @@ class Proving(StubKit):
 
     def test_as_it_is_done(self):
         """A crate has its line when it is proved, and not when all are."""
-        self.script("echo 'rt: reach proved (42 s)'\n" + WAIT_FOR_GO + GOOD)
+        self.script("echo 'rt: chose --jobs 2 for reach'\necho 'logic=proved functions=1'\n" + WAIT_FOR_GO + GOOD)
         process = self.start(self.repository / "tools/prove", "program")
         self.assertEqual(process.stderr.readline().decode(), FIRST_TIME)
-        self.assertEqual(process.stderr.readline().decode(), "prove: reach proved, 42 s\n")
+        self.assertEqual(untimed(process.stderr.readline().decode()), "prove: reach proved, N s\n")
         (self.stub / "go").touch()
         self.assertEqual(process.wait(SECONDS), 0)
 
     def test_lost_program(self):
-        """A program or a library that is gone is made again: its stamp goes before rt is asked."""
+        """A program that is gone is put back, and one that is made anew is put in its place."""
         self.prove("program")
-        stamps = self.repository / "target/stamp"
-        for name in ("runner", "gone"):
-            (stamps / name).touch()
-        (self.repository / "target/bin/runner").unlink()
-        self.script('ls target/stamp > "$STUB/stamps"\n' + GOOD)
+        program = self.repository / "target/bin/runner"
+        made = program.read_bytes()
+        program.unlink()
+        self.script(UNCHANGED)
+        self.assertEqual(self.prove("program"), (0, b"", ""))
+        self.assertEqual(program.read_bytes(), made)
+        self.script("printf '#!/bin/sh\\nexec rev\\n' > out/runner\n" + GOOD)
         self.assertEqual(self.prove("program")[0], 0)
-        self.assertEqual((self.stub / "stamps").read_text().split(), ["reach"])
+        self.assertEqual(program.read_bytes(), b"#!/bin/sh\nexec rev\n")
+
+    def test_another_program(self):
+        """Each program of the repository can be made; where the kit makes none, that is said."""
+        (self.repository / "crates/card/src").mkdir(parents=True)
+        (self.repository / "crates/card/src/main.rt").touch()
+        self.script("mkdir -p out\necho card > out/card\n")
+        self.assertEqual(self.prove("program", "card")[0], 0)
+        self.assertEqual(self.calls(), ["card: run"])
+        self.assertEqual((self.repository / "target/bin/card").read_text(), "card\n")
+
+    def test_log(self):
+        """What was said of a crate is kept in a file, and waiting is told."""
+        self.script("echo 'rt: waiting for another rt to finish in /x/crates/reach' >&2\n" + GOOD)
+        self.assertIn("prove: waiting for another rt to finish in /x/crates/reach\n", self.prove("program")[2])
+        log = self.repository / "target/log"
+        self.assertEqual(sorted(path.name for path in log.iterdir()), ["reach.out", "runner.out"])
+        self.assertEqual((log / "runner.out").read_text(), "logic=proved functions=2 axioms=2\n")
 
     def test_run(self):
         """`prove run` has the output and the status of rt."""
@@ -82,11 +102,11 @@ class Waiting(StubKit):
         self.await_(self.calls, "the first call of rt")
         second = self.start(self.repository / "tools/prove", "run", "version")
         self.assertEqual(second.stderr.readline().decode(), WAITING)
-        self.assertEqual(self.calls(), ["check runner"])
+        self.assertEqual(self.calls(), ["runner: run"])
         (self.stub / "go").touch()
         self.assertEqual((first.wait(SECONDS), second.wait(SECONDS)), (0, 0))
         self.assertEqual(second.stderr.read(), b"")
-        self.assertEqual(self.calls(), ["check runner", "version"])
+        self.assertEqual(self.calls(), ["runner: run", "version"])
         self.assertFalse((self.stub / "clash").exists())
 
     def test_many(self):

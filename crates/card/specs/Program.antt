@@ -1,6 +1,6 @@
 -- What the program does with the bytes that it read: what it writes on a card, and what it prints. [02:2.1] "A club that replaces a blown board
 -- wants its sheet written and read back."
-use Rattle.std.specs.Prelude.{◌≡◌, Bool, not, [], ◌∷◌, ◌++◌, ℕ, ltb, length, take}
+use Rattle.std.specs.Prelude.{◌≡◌, Bool, not, [], ◌∷◌, ◌++◌, ℕ, ◌≤◌, ltb, length, take}
 use Rattle.frame.specs.Reading.{records_from}
 use Rattle.text.specs.Text.{Bytes, decimal, lines}
 use Rattle.reach.specs.declared.Policy.{Policy}
@@ -51,6 +51,10 @@ pub record Saves (input card card' line' : Bytes) (r : Saved) : Type 0 where
 -- ".XXXXXX", the end of the name of a new file: the system chooses the six letters.
 abbrev pub six_unknown : Bytes
 six_unknown = 46 ∷ 88 ∷ 88 ∷ 88 ∷ 88 ∷ 88 ∷ 88 ∷ []
+
+-- The first n bytes of the buffer are in it, and they are n.
+abbrev pub IsPrefixLen : ℕ → Bytes → Type 0
+IsPrefixLen n buffer = (n ≤ length buffer) × (n ≡ length (take n buffer))
 
 -- ---- Loading
 

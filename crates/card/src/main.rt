@@ -4,11 +4,15 @@
 
 #![tactic(auto)]
 
+ghost use Rattle.std.specs.Prelude.{◌≤◌, length};
+
 mod files;
 mod texts;
 
-use files::{fetch, read_input, replace};
-use libc::{STDERR_FILENO, STDOUT_FILENO};
+use files::{complain, fetch, read_input, replace};
+use std::env::{Env, FillError};
+use std::io;
+use std::io::Write;
 use texts::{load_and_judge, save_list};
 
 // What is saved: whether there is a card, its length, and that of the line to print.
@@ -26,63 +30,50 @@ pub struct Told {
     pub text: usize,
 }
 
-// Whether a file was read, and how many bytes it gave.
-#[derive(Clone, Copy)]
-pub struct Fetched {
-    pub is_read: bool,
-    pub count: usize,
-}
-
 // `card save NAME`. The line is printed once the card is in its place.
-fn save(name: &[u8]) {
+fn save(rt: HostRuntime, name: &[u8]) -> io::Result<()> {
     let mut input = [0u8; 65537];
-    let fetched = read_input(&mut input);
-    if !fetched.is_read {
-        return;
-    }
-    let read = fetched.count;
+    let Some(read) = read_input(rt, &mut input) else {
+        return Ok(());
+    };
     let mut card = [0u8; 25376];
     let mut line = [0u8; 16];
     let saved = save_list(&input, read, &mut card, &mut line);
     let length = saved.length;
     let printed = saved.printed;
     if saved.fits {
-        if !replace(name, &card[..length]) {
-            return;
+        if !replace(rt, name, &card[..length]) {
+            return Ok(());
         }
     }
-    io::write_all(STDOUT_FILENO, &line[..printed]);
+    rt.stdout().write_all(&line[..printed])
 }
 
 // `card load NAME`. The card is read before standard input, and nothing is printed before both are.
-fn load(name: &[u8]) {
+fn load(rt: HostRuntime, name: &[u8]) -> io::Result<()> {
     let mut card = [0u8; 25377];
-    let fetched = fetch(name, &mut card);
-    if !fetched.is_read {
-        return;
-    }
-    let count = fetched.count;
+    let Some(count) = fetch(rt, name, &mut card) else {
+        return Ok(());
+    };
     if 25376 < count {
-        io::write_all(STDERR_FILENO, name);
-        io::write_all(
-            STDERR_FILENO,
-            b": longer than any card, which has at most 25,376 bytes\n",
+        complain(
+            rt,
+            name,
+            "longer than any card, which has at most 25,376 bytes",
         );
-        return;
+        return Ok(());
     }
     let mut input = [0u8; 65537];
-    let requests = read_input(&mut input);
-    if !requests.is_read {
-        return;
-    }
-    let read = requests.count;
+    let Some(read) = read_input(rt, &mut input) else {
+        return Ok(());
+    };
     let mut head = [0u8; 4];
     let mut text = [0u8; 212992];
     let told = load_and_judge(&card, count, &input, read, &mut head, &mut text);
     let in_head = told.head;
     let in_text = told.text;
-    io::write_all(STDOUT_FILENO, &head[..in_head]);
-    io::write_all(STDOUT_FILENO, &text[..in_text]);
+    rt.stdout().write_all(&head[..in_head])?;
+    rt.stdout().write_all(&text[..in_text])
 }
 
 // Whether the first word is the command.
@@ -94,28 +85,49 @@ fn is_command(word: &[u8; 4], command: &[u8; 4]) -> bool {
 }
 
 // Says how the program is called.
-fn usage() {
-    io::write_all(
-        STDERR_FILENO,
-        b"usage: card save NAME, or card load NAME (a name of at most 4,088 bytes)\n",
+fn usage(rt: HostRuntime) {
+    complain(
+        rt,
+        b"usage",
+        "card save NAME, or card load NAME (a name of at most 4,088 bytes)",
     );
 }
 
+// Puts a word behind the program's own name at the start of the buffer, and answers its length: 0 where there is no such word, or no room for
+// all of it.
+fn word_at(rt: HostRuntime, i: usize, buffer: &mut [u8]) -> usize
+    ensures { result ≤ length buffer.new }
+{
+    match rt.arg(i, buffer) {
+        Ok(letters) => letters,
+        Err(_) => 0,
+    }
+}
+
+// Whether there is such a word, of any length.
+fn has_word(rt: HostRuntime, i: usize) -> bool {
+    match rt.arg(i, &mut []) {
+        Err(FillError::NotPresent) => false,
+        _ => true,
+    }
+}
+
 // The words behind the program's own name: a command, and a name that leaves room for the end of the new file's name.
-fn main() {
+fn main(rt: HostRuntime) -> io::Result<()> {
     let mut word = [0u8; 4];
-    let letters = os::arg(1, &mut word);
+    let letters = word_at(rt, 1, &mut word);
     let mut path = [0u8; 4088];
-    let length = os::arg(2, &mut path);
-    if (os::arg_count() != 3) | (letters != 4) | (length == 0) {
-        usage();
-        return;
+    let length = word_at(rt, 2, &mut path);
+    if has_word(rt, 3) | (letters != 4) | (length == 0) {
+        usage(rt);
+        return Ok(());
     }
     if is_command(&word, b"save") {
-        save(&path[..length]);
+        save(rt, &path[..length])
     } else if is_command(&word, b"load") {
-        load(&path[..length]);
+        load(rt, &path[..length])
     } else {
-        usage();
+        usage(rt);
+        Ok(())
     }
 }

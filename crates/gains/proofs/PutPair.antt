@@ -1,7 +1,7 @@
 -- By PUT he comes to administer a pair exactly if some appointment of his has a side above g and not above x and he lacks the pair of x
 -- and its other side. Where both sides, A and B, are above g and not above x, he lacks (x, x); so if he has (x, B) by another appointment,
 -- he lacks (A, x).
-use mathlib.Core.Path.{◌≡◌, refl, sym, subst}
+use mathlib.Core.Path.{◌≡◌, refl}
 use mathlib.Core.Logic.{◌⊎◌, inl, inr, ⊎_elim}
 use mathlib.Core.Bool.{Bool, true, false}
 use Prim.Native.Nat.{ℕ, ◌<◌}
@@ -15,7 +15,7 @@ use Rattle.reach.proofs.Reaching.{under_trans, under_upper}
 use Rattle.reach.proofs.Frames.{put_keeps, put_adds, put_adds_only}
 use Rattle.reach.proofs.Testing.{refuted}
 use Rattle.reach.proofs.Deciding.{administers_decides}
-use Rattle.gains.specs.Lacking.{LacksA, LacksB, LacksPairBy, LacksPair}
+use Rattle.gains.specs.Lacking.{LacksA, LacksB, LacksPair}
 use Rattle.gains.proofs.Downward.{administers_down}
 
 -- A pair that he has after a change and lacked before.

@@ -11,7 +11,6 @@ use Rattle.reach.specs.Privileges.{orphaned}
 use Rattle.reach.specs.Successors.{on_table, remove_from}
 use Rattle.reach.specs.Asking.{tables_of}
 use Rattle.reach.proofs.Bereaving.{orphaned_taken, orphaned_dismissed}
-use Rattle.rules.specs.declared.Request.{Request}
 use Rattle.rules.specs.declared.Request.TheVariants.{Take, Dismiss}
 use Rattle.rules.specs.Doing.{after}
 use Rattle.rules.specs.Refusals.{orphan}

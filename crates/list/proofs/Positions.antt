@@ -11,7 +11,7 @@ use Rattle.reach.specs.declared.Policy.{Policy}
 use Rattle.reach.specs.Tables.{View, Sized, view}
 use Rattle.rules.specs.declared.Request.{Request}
 use Rattle.rules.specs.Records.{sender, request}
-use Rattle.rules.specs.Judging.{code_of, verdict, accepted, judge, numbers_of, answers}
+use Rattle.rules.specs.Judging.{code_of, judge, numbers_of, answers}
 use Rattle.rules.specs.Allowing.{view_after, Allowed}
 use Rattle.rules.proofs.Table.{refused_same, answers_next}
 use Rattle.rules.proofs.TwoWordings.{judge_decides, judge_after, judge_sized}

@@ -1,10 +1,12 @@
 // The program: turns at one radio. It reads records from standard input, document 01's and four kinds of its own (32
-// START, 33 JOIN, 34 LEAVE, 35 TICK), and prints what each does. No contract can say what is read and written: what is
-// proved is the function between the two.
+// START, 33 JOIN, 34 LEAVE, 35 TICK), and prints what each does. No contract can say what standard input gives and
+// standard output takes: what is proved is what is printed for what was read, at any reader and writer whose bytes are
+// known.
 
 #![tactic(auto)]
 
-ghost use Rattle.std.specs.Prelude.{◌≡◌, ◌≤◌, length, take};
+ghost use Rattle.std.specs.Prelude.{◌≡◌, ◌≤◌, length, take, OnOk, IfSome};
+ghost use Rattle.std.specs.Io.KnownBytes.{Appends};
 ghost use Rattle.text.specs.Text.{Printed};
 ghost use Rattle.queue_run.specs.Program.{founding};
 ghost use Rattle.queue_run.specs.Output.{lines_from, too_long, output};
@@ -14,8 +16,10 @@ mod lines;
 
 use club::{founded, taken_in};
 use frame::{Step, read_at};
-use libc::{STDIN_FILENO, STDOUT_FILENO};
+use intake::read_full;
 use lines::put_told;
+use std::io;
+use std::io::{Read, Write};
 use text::{put_bytes, put_line};
 
 // A line for each record of the input, and one for a torn place. A buffer that is too small gets as much of the text as
@@ -75,10 +79,19 @@ fn answer(input: &[u8; 65537], read: usize, text: &mut [u8; 655360]) -> usize
     output(buffer, text)
 }
 
-fn main() {
+// Reads the records, and prints what is told of all of them: of an input that is too long, only that it is. An error
+// prints nothing, or is that of the printing.
+fn run<R: Read, W: Write>(reader: &mut R, writer: &mut W) -> io::Result<()>
+    ensures { OnOk result (IfSome (R.remaining reader.old) (λ records.
+        Appends (W.contents writer.old) (W.contents writer.new) (output records))) }
+{
     let mut input = [0u8; 65537];
-    let read = io::read_full(STDIN_FILENO, &mut input);
+    let read = read_full(reader, &mut input)?;
     let mut text = [0u8; 655360];
     let n = answer(&input, read, &mut text);
-    io::write_all(STDOUT_FILENO, &text[..n]);
+    writer.write_all(&text[..n])
+}
+
+fn main(rt: HostRuntime) -> io::Result<()> {
+    run(&mut rt.stdin(), &mut rt.stdout())
 }

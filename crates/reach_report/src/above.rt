@@ -3,26 +3,24 @@
 use crate::NAMED;
 use crate::text::{head, item, words};
 use reach::Policy;
+use std::io;
+use std::io::Write;
 
 // All that x is under, with a mark where the question about one group says otherwise. It is under what it is directly in.
-fn line(p: Policy, x: u8) {
-    head(b"above", x);
+fn line<W: Write>(out: &mut W, p: Policy, x: u8) -> io::Result<()> {
+    head(out, b"above", x)?;
     let set = p.above(x);
-    let mut g: u8 = 0;
-    while g < 64 {
-        item(set, g, p.under(x, g) | p.direct(x, g));
-        g += 1;
+    for g in 0..64 {
+        item(out, set, g, p.under(x, g) | p.direct(x, g))?;
     }
-    words(b"\n");
+    words(out, b"\n")
 }
 
 // A line for each object that the script names, for the last number of the table and for the first past it.
-pub fn lines(p: Policy) {
-    let mut x: u8 = 0;
-    while x < NAMED {
-        line(p, x);
-        x += 1;
+pub fn lines<W: Write>(out: &mut W, p: Policy) -> io::Result<()> {
+    for x in 0..NAMED {
+        line(out, p, x)?;
     }
-    line(p, 63);
-    line(p, 64);
+    line(out, p, 63)?;
+    line(out, p, 64)
 }

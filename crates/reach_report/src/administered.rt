@@ -3,33 +3,31 @@
 use crate::NAMED;
 use crate::text::{end_of_some, head_of_some, item};
 use reach::Policy;
+use std::io;
+use std::io::Write;
 
 // All b such that u administers (a, b); no line where there is none.
-fn line(p: Policy, u: u8, a: u8) {
+fn line<W: Write>(out: &mut W, p: Policy, u: u8, a: u8) -> io::Result<()> {
     let set = p.administered(u, a);
-    head_of_some(set, b"administers", u, a);
-    let mut b: u8 = 0;
-    while b < 64 {
-        item(set, b, p.administers(u, a, b));
-        b += 1;
+    head_of_some(out, set, b"administers", u, a)?;
+    for b in 0..64 {
+        item(out, set, b, p.administers(u, a, b))?;
     }
-    end_of_some(set);
+    end_of_some(out, set)
 }
 
 // The lines of u, by the first of the pair.
-fn lines_of(p: Policy, u: u8) {
-    let mut a: u8 = 0;
-    while a < NAMED {
-        line(p, u, a);
-        a += 1;
+fn lines_of<W: Write>(out: &mut W, p: Policy, u: u8) -> io::Result<()> {
+    for a in 0..NAMED {
+        line(out, p, u, a)?;
     }
+    Ok(())
 }
 
 // The lines of each object that the script names.
-pub fn lines(p: Policy) {
-    let mut u: u8 = 0;
-    while u < NAMED {
-        lines_of(p, u);
-        u += 1;
+pub fn lines<W: Write>(out: &mut W, p: Policy) -> io::Result<()> {
+    for u in 0..NAMED {
+        lines_of(out, p, u)?;
     }
+    Ok(())
 }

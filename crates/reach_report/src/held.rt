@@ -3,37 +3,34 @@
 use crate::NAMED;
 use crate::text::{head, item, words};
 use reach::Policy;
+use std::io;
+use std::io::Write;
 
 // What u owns.
-fn owns_line(p: Policy, u: u8) {
-    head(b"owns", u);
+fn owns_line<W: Write>(out: &mut W, p: Policy, u: u8) -> io::Result<()> {
+    head(out, b"owns", u)?;
     let set = p.owned(u);
-    let mut x: u8 = 0;
-    while x < 64 {
-        item(set, x, p.owns(u, x));
-        x += 1;
+    for x in 0..64 {
+        item(out, set, x, p.owns(u, x))?;
     }
-    words(b"\n");
+    words(out, b"\n")
 }
 
 // What u manages.
-fn manages_line(p: Policy, u: u8) {
-    head(b"manages", u);
+fn manages_line<W: Write>(out: &mut W, p: Policy, u: u8) -> io::Result<()> {
+    head(out, b"manages", u)?;
     let set = p.managed(u);
-    let mut x: u8 = 0;
-    while x < 64 {
-        item(set, x, p.manages(u, x));
-        x += 1;
+    for x in 0..64 {
+        item(out, set, x, p.manages(u, x))?;
     }
-    words(b"\n");
+    words(out, b"\n")
 }
 
 // Two lines for each object that the script names.
-pub fn lines(p: Policy) {
-    let mut u: u8 = 0;
-    while u < NAMED {
-        owns_line(p, u);
-        manages_line(p, u);
-        u += 1;
+pub fn lines<W: Write>(out: &mut W, p: Policy) -> io::Result<()> {
+    for u in 0..NAMED {
+        owns_line(out, p, u)?;
+        manages_line(out, p, u)?;
     }
+    Ok(())
 }

@@ -12,15 +12,18 @@ mod script;
 mod text;
 mod under;
 
+use std::io;
+
 // The script names the objects 0 to 12.
 const NAMED: u8 = 13;
 
-fn main() {
+fn main(rt: HostRuntime) -> io::Result<()> {
+    let mut out = rt.stdout();
     let p = script::policy();
-    under::lines(p);
-    above::lines(p);
-    held::lines(p);
-    administered::lines(p);
-    permitted::lines(p);
-    orphans::line(p);
+    under::lines(&mut out, p)?;
+    above::lines(&mut out, p)?;
+    held::lines(&mut out, p)?;
+    administered::lines(&mut out, p)?;
+    permitted::lines(&mut out, p)?;
+    orphans::line(&mut out, p)
 }

@@ -7,6 +7,8 @@ ghost use Rattle.reach.specs.Privileges.{Owns, Orphan};
 
 use crate::text::{doubt, item, words};
 use reach::{Policy, has};
+use std::io;
+use std::io::Write;
 
 // All that some user owns.
 fn owned_by_any(p: Policy) -> u64
@@ -30,15 +32,13 @@ fn orphans(p: Policy, owned: u64) -> u64
 }
 
 // The orphans, and a mark where the board's own question of whether there are any was answered otherwise.
-pub fn line(p: Policy) {
-    words(b"orphans:");
+pub fn line<W: Write>(out: &mut W, p: Policy) -> io::Result<()> {
+    words(out, b"orphans:")?;
     let owned = owned_by_any(p);
     let set = orphans(p, owned);
-    let mut x: u8 = 0;
-    while x < 64 {
-        item(set, x, p.in_use(x) & !has(owned, x));
-        x += 1;
+    for x in 0..64 {
+        item(out, set, x, p.in_use(x) & !has(owned, x))?;
     }
-    doubt(p.orphaned() != (set != 0));
-    words(b"\n");
+    doubt(out, p.orphaned() != (set != 0))?;
+    words(out, b"\n")
 }

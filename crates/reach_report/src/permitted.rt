@@ -3,46 +3,42 @@
 use crate::NAMED;
 use crate::text::{end_of_some, head_of_some, item, place};
 use reach::{Place, Policy};
+use std::io;
+use std::io::Write;
 
 // The target x, if it is in the set, with its place.
-fn item_at(set: u64, x: u8, found: Place) {
+fn item_at<W: Write>(out: &mut W, set: u64, x: u8, found: Place) -> io::Result<()> {
     match found {
         Place::At(i) => {
-            item(set, x, true);
-            place(i);
+            item(out, set, x, true)?;
+            place(out, i)
         }
-        Place::Nothing => {
-            item(set, x, false);
-        }
+        Place::Nothing => item(out, set, x, false),
     }
 }
 
 // The targets on which u is permitted operation k; no line where there is none.
-fn line(p: Policy, u: u8, k: u8) {
+fn line<W: Write>(out: &mut W, p: Policy, u: u8, k: u8) -> io::Result<()> {
     let set = p.permitted(u, k);
-    head_of_some(set, b"permitted", u, k);
-    let mut x: u8 = 0;
-    while x < 64 {
-        item_at(set, x, p.permitting(u, k, x));
-        x += 1;
+    head_of_some(out, set, b"permitted", u, k)?;
+    for x in 0..64 {
+        item_at(out, set, x, p.permitting(u, k, x))?;
     }
-    end_of_some(set);
+    end_of_some(out, set)
 }
 
 // The lines of u, by the operation. The first that is none, 8, is asked too.
-fn lines_of(p: Policy, u: u8) {
-    let mut k: u8 = 0;
-    while k < 9 {
-        line(p, u, k);
-        k += 1;
+fn lines_of<W: Write>(out: &mut W, p: Policy, u: u8) -> io::Result<()> {
+    for k in 0..9 {
+        line(out, p, u, k)?;
     }
+    Ok(())
 }
 
 // The lines of each object that the script names.
-pub fn lines(p: Policy) {
-    let mut u: u8 = 0;
-    while u < NAMED {
-        lines_of(p, u);
-        u += 1;
+pub fn lines<W: Write>(out: &mut W, p: Policy) -> io::Result<()> {
+    for u in 0..NAMED {
+        lines_of(out, p, u)?;
     }
+    Ok(())
 }

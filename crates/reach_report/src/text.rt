@@ -1,61 +1,63 @@
-// Parts of a line, on the standard output. No contract can say what is written to a file descriptor: the file stdout, which the program is
-// held to and tools/reach_by_hand.py works out by itself, stands in for it.
-use libc::STDOUT_FILENO;
+// Parts of a line, written to what prints it. No contract can say what the standard output takes: the file stdout, which the program is held
+// to and tools/reach_by_hand.py works out by itself, stands in for it.
 use reach::has;
+use std::io;
+use std::io::Write;
 
 // The words as they are.
-pub fn words(text: &[u8]) {
-    io::write_all(STDOUT_FILENO, text);
+pub fn words<W: Write>(out: &mut W, text: &[u8]) -> io::Result<()> {
+    out.write_all(text)
 }
 
 // A number after a space.
-pub fn number(x: u8) {
-    words(b" ");
-    io::print_decimal(STDOUT_FILENO, x as u64);
+pub fn number<W: Write>(out: &mut W, x: u8) -> io::Result<()> {
+    write!(out, " {x}")
 }
 
 // The place after a number.
-pub fn place(i: u8) {
-    words(b":");
-    io::print_decimal(STDOUT_FILENO, i as u64);
+pub fn place<W: Write>(out: &mut W, i: u8) -> io::Result<()> {
+    write!(out, ":{i}")
 }
 
 // A mark that no line should have, where two answers differ.
-pub fn doubt(differ: bool) {
+pub fn doubt<W: Write>(out: &mut W, differ: bool) -> io::Result<()> {
     if differ {
-        words(b"?");
+        words(out, b"?")?;
     }
+    Ok(())
 }
 
 // The number x, if it is in the set, and a mark where the question about x alone was answered otherwise.
-pub fn item(set: u64, x: u8, asked: bool) {
+pub fn item<W: Write>(out: &mut W, set: u64, x: u8, asked: bool) -> io::Result<()> {
     let listed = has(set, x);
     if listed {
-        number(x);
+        number(out, x)?;
     }
-    doubt(listed != asked);
+    doubt(out, listed != asked)
 }
 
 // The head of a line that tells of n.
-pub fn head(title: &[u8], n: u8) {
-    words(title);
-    number(n);
-    words(b":");
+pub fn head<W: Write>(out: &mut W, title: &[u8], n: u8) -> io::Result<()> {
+    words(out, title)?;
+    number(out, n)?;
+    words(out, b":")
 }
 
 // The head of a line that tells of u and n, if the set has something to tell.
-pub fn head_of_some(set: u64, title: &[u8], u: u8, n: u8) {
+pub fn head_of_some<W: Write>(out: &mut W, set: u64, title: &[u8], u: u8, n: u8) -> io::Result<()> {
     if set != 0 {
-        words(title);
-        number(u);
-        number(n);
-        words(b":");
+        words(out, title)?;
+        number(out, u)?;
+        number(out, n)?;
+        words(out, b":")?;
     }
+    Ok(())
 }
 
 // The end of such a line.
-pub fn end_of_some(set: u64) {
+pub fn end_of_some<W: Write>(out: &mut W, set: u64) -> io::Result<()> {
     if set != 0 {
-        words(b"\n");
+        words(out, b"\n")?;
     }
+    Ok(())
 }

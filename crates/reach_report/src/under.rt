@@ -3,26 +3,24 @@
 use crate::NAMED;
 use crate::text::{head, item, words};
 use reach::Policy;
+use std::io;
+use std::io::Write;
 
 // All that is under g, with a mark where the question about one object says otherwise. What is directly in g is under it.
-fn line(p: Policy, g: u8) {
-    head(b"under", g);
+fn line<W: Write>(out: &mut W, p: Policy, g: u8) -> io::Result<()> {
+    head(out, b"under", g)?;
     let set = p.under_set(g);
-    let mut x: u8 = 0;
-    while x < 64 {
-        item(set, x, p.under(x, g) | p.direct(x, g));
-        x += 1;
+    for x in 0..64 {
+        item(out, set, x, p.under(x, g) | p.direct(x, g))?;
     }
-    words(b"\n");
+    words(out, b"\n")
 }
 
 // A line for each object that the script names, for the last number of the table and for the first past it.
-pub fn lines(p: Policy) {
-    let mut g: u8 = 0;
-    while g < NAMED {
-        line(p, g);
-        g += 1;
+pub fn lines<W: Write>(out: &mut W, p: Policy) -> io::Result<()> {
+    for g in 0..NAMED {
+        line(out, p, g)?;
     }
-    line(p, 63);
-    line(p, 64);
+    line(out, p, 63)?;
+    line(out, p, 64)
 }

@@ -82,6 +82,12 @@ class Building(DeskTest):
             self.assertEqual(self.run_copy()[:3], (0, ANSWER, ""))
         self.assertEqual(self.calls(), 1)
         later = time.time() + 1
+        made = self.folder / "crates/reach/out"
+        made.mkdir()
+        os.utime(made, (later, later))
+        os.utime(made.parent, (1, 1))
+        self.assertEqual(self.run_copy().status, 0)
+        self.assertEqual(self.calls(), 1)
         os.utime(self.source, (later, later))
         self.assertEqual(self.run_copy().status, 0)
         self.assertEqual(self.calls(), 2)

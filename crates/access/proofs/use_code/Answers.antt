@@ -1,6 +1,5 @@
 -- The number is that of the judge's decision on the record that says the USE, and its verdict is that of the rules.
 use mathlib.Core.Path.{ap, ◌∙◌}
-use Rattle.std.proofs.Common.{rules}
 use Rattle.judge.specs.declared.Decision.{Decision}
 use Rattle.rules.specs.Judging.{code_of, judge}
 use Rattle.access.specs.Using.{use_record, use_code}

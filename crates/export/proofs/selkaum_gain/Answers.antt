@@ -2,7 +2,6 @@
 -- too short, is refused before anything is judged.
 use native.Mathlib.Omega.{arith}
 use Rattle.export.proofs.Telling.{no_picture, no_room, tells, tells_none}
-use Rattle.std.proofs.Common.{rules}
 use Rattle.export.proofs.selkaum_gain.Goals as goal
 
 pub returns-then-policy-ne960 : goal.returns-then-policy-ne960

@@ -2,7 +2,6 @@
 -- that is too short, is refused before anything is judged.
 use native.Mathlib.Omega.{arith}
 use Rattle.export.proofs.Picturing.{not_a_picture, no_room, judged}
-use Rattle.std.proofs.Common.{rules}
 use Rattle.export.proofs.selkaum_judge.Goals as goal
 
 pub returns-then-policy-ne960 : goal.returns-then-policy-ne960

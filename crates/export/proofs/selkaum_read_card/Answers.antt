@@ -2,7 +2,6 @@
 -- that is too short, is refused before anything is read.
 use native.Mathlib.Omega.{arith}
 use Rattle.export.proofs.Carding.{no_picture_read, no_room_read, card_read}
-use Rattle.std.proofs.Common.{rules}
 use Rattle.export.proofs.selkaum_read_card.Goals as goal
 
 pub returns-then-policy-ne960 : goal.returns-then-policy-ne960

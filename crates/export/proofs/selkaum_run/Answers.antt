@@ -5,7 +5,6 @@ use borrow.Author.Tests.{not-true, not-false}
 use Rattle.list.proofs.Demanded.{third}
 use Rattle.list.proofs.Running.{run_into}
 use Rattle.export.proofs.Filling.{no_picture, not_run, has_run}
-use Rattle.std.proofs.Common.{rules}
 use Rattle.export.proofs.selkaum_run.Goals as goal
 
 pub returns-then-policy-lt960 : goal.returns-then-policy-lt960

@@ -2,7 +2,6 @@
 -- code, is refused before anything is written.
 use native.Mathlib.Omega.{arith}
 use Rattle.export.proofs.Carding.{no_picture_written, no_code_written, card_written}
-use Rattle.std.proofs.Common.{rules}
 use Rattle.export.proofs.selkaum_write_card.Goals as goal
 
 pub returns-then-policy-ne960 : goal.returns-then-policy-ne960

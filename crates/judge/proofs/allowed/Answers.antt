@@ -2,10 +2,8 @@
 use mathlib.Core.Path.{◌≡◌, sym, ◌∙◌}
 use mathlib.Core.Bool.{true}
 use native.Mathlib.Omega.{arith}
-use borrow.Author.Tests.{not-true, not-false}
 use Rattle.judge.specs.Answering.{changes}
 use Rattle.judge.proofs.Staging.{stays, goes_on, use_allowed, put_allowed}
-use Rattle.std.proofs.Common.{rules}
 use Rattle.judge.proofs.allowed.Goals as goal
 
 pub returns-then-not-changes : goal.returns-then-not-changes

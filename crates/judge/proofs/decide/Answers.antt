@@ -1,6 +1,5 @@
 -- The three stages give the verdict on the record that was read.
 use Rattle.judge.proofs.Ordered.{stages, read_sent, read_asked, read_named, decides}
-use Rattle.std.proofs.Common.{rules}
 use Rattle.judge.proofs.decide.Goals as goal
 
 pub returns : goal.returns

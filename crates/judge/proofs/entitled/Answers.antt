@@ -6,7 +6,6 @@ use Rattle.judge.specs.Naming.{named_by}
 use Rattle.judge.specs.Kind.{is_use, is_put}
 use Rattle.judge.proofs.Entitling.{already_found, entitled_found}
 use Rattle.judge.proofs.Staging.{so_already, not_entitled, is_entitled}
-use Rattle.std.proofs.Common.{rules}
 use Rattle.judge.proofs.entitled.Goals as goal
 
 pub returns-then-already_so : goal.returns-then-already_so

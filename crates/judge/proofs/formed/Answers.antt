@@ -1,10 +1,7 @@
 -- The refusal of the first check that applies: `no-n` says that check n does not.
 use mathlib.Core.Path.{◌≡◌, sym, ◌∙◌}
 use mathlib.Core.Bool.{false}
-use Rattle.reach.specs.declared.Policy.{Policy}
-use Rattle.rules.specs.Refusals.{torn, unknown, misfit, stranger, off_the_sheet, absent, wrong_sort}
-use Rattle.judge.specs.Naming.{named_by}
-use Rattle.std.proofs.Common.{rules}
+use Rattle.rules.specs.Refusals.{torn, unknown, misfit, off_the_sheet}
 use Rattle.judge.proofs.formed.Goals as goal
 
 pub returns-then-torn : goal.returns-then-torn

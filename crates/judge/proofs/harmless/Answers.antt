@@ -1,7 +1,6 @@
 -- What a kind cannot fail, or was asked before, is not asked: of those that can give something the last check, and of the others checks 10 and 11.
 use mathlib.Core.Path.{◌≡◌, refl, sym, ◌∙◌}
-use mathlib.Core.Bool.{true, not}
-use borrow.Author.Tests.{not-true, not-false}
+use mathlib.Core.Bool.{true}
 use Rattle.reach.specs.Tables.{Sized}
 use Rattle.reach.proofs.Lists.{length_mapped}
 use Rattle.judge.specs.Answering.{changes}

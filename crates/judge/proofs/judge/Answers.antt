@@ -9,7 +9,6 @@ use Rattle.rules.proofs.Bounded.{one_answer}
 use Rattle.judge.specs.declared.Decision.{Decision}
 use Rattle.judge.specs.Answering.{answered, answer_by, decided}
 use Rattle.judge.proofs.Ordered.{decided_answer, leaves_changed, leaves_same}
-use Rattle.std.proofs.Common.{rules}
 use Rattle.judge.proofs.judge.Goals as goal
 
 -- With a decision that changes the policy goes the policy after, and with every other the policy as it was.

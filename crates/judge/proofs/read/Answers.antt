@@ -1,7 +1,6 @@
 -- The fields of the record as they are read, and what the first seven checks say of them.
-use mathlib.Core.Path.{◌≡◌, refl}
+use mathlib.Core.Path.{refl}
 use Rattle.judge.proofs.Staging.{read_is}
-use Rattle.std.proofs.Common.{rules}
 use Rattle.judge.proofs.read.Goals as goal
 
 pub returns : goal.returns

@@ -1,10 +1,8 @@
 -- An empty place asks nothing; of an appointment that stands the tests are those of its holder, its A and its B, side by side.
 use mathlib.Core.Path.{sym, ◌∙◌}
 use native.Mathlib.Omega.{arith}
-use borrow.Author.Tests.{not-true, not-false}
 use Rattle.reach.proofs.Testing.{decides_at}
 use Rattle.soundness.proofs.Fitting.{always, appointment_vacant, administrator_in, other_in}
-use Rattle.std.proofs.Common.{rules}
 use Rattle.soundness.proofs.appointment_fits.Goals as goal
 
 pub returns-then-not-standing : goal.returns-then-not-standing

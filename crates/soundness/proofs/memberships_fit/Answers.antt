@@ -1,9 +1,5 @@
-use Prim.Native.Nat.{◌-◌, ◌≤◌}
 use native.Mathlib.Omega.{arith}
-use lib.ListN.{get_or}
-use borrow.Author.Tests.{not-true, not-false}
 use Rattle.reach.proofs.Testing.{refuted}
-use Rattle.soundness.specs.Masked.{Every, RowIn}
 use Rattle.soundness.proofs.Fitting.{always, never}
 use Rattle.soundness.proofs.Tying.{every_none, every_add, every_end}
 use Rattle.std.proofs.Common.{rules}

@@ -2,7 +2,6 @@
 use borrow.Author.Tests.{not-true, not-false}
 use Rattle.reach.proofs.Testing.{decides_at}
 use Rattle.soundness.proofs.Fitting.{always, rule_vacant, rule_read}
-use Rattle.std.proofs.Common.{rules}
 use Rattle.soundness.proofs.rule_fits.Goals as goal
 
 pub returns-then-not-r : goal.returns-then-not-r

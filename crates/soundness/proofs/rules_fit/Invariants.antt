@@ -1,14 +1,8 @@
 -- The invariant: every rule before i passed. The first that does not is the answer, and at the end all have.
 use Prim.Native.Nat.{◌-◌, ◌≤◌}
-use native.Mathlib.Omega.{arith}
 use lib.ListN.{get_or}
-use borrow.Author.Tests.{not-true, not-false}
 use Rattle.reach.specs.Tables.{no_rule}
-use Rattle.reach.proofs.Testing.{refuted}
 use Rattle.soundness.specs.Masked.{Every, RuleIn}
-use Rattle.soundness.proofs.Fitting.{always, never}
-use Rattle.soundness.proofs.Tying.{every_none, every_add, every_end}
-use Rattle.std.proofs.Common.{rules}
 use Rattle.soundness.proofs.rules_fit.Given as goal
 
 abbrev pub invariant-loop-i : goal.invariant-loop-i

@@ -1,10 +1,7 @@
 -- `put_appointments` stores four bytes for each place of the table: its loop keeps `Drawing`.
-use mathlib.Core.Path.{refl}
 use Prim.Native.Nat.{◌-◌}
-use native.Mathlib.Omega.{arith}
 use Rattle.export.specs.Picture.{appointment_bytes}
-use Rattle.export.proofs.Storing.{Drawing, drawing_start, drawing_step, drawing_end}
-use Rattle.std.proofs.Common.{rules}
+use Rattle.export.proofs.Storing.{Drawing}
 use Rattle.export.proofs.drawing.put_appointments.Given as goal
 
 abbrev pub invariant-loop-i : goal.invariant-loop-i

@@ -2,7 +2,6 @@
 use native.Mathlib.Omega.{arith}
 use lib.ListN.{length-set}
 use Rattle.export.proofs.Storing.{sets_four}
-use Rattle.std.proofs.Common.{rules}
 use Rattle.export.proofs.drawing.put_four.Goals as goal
 
 pub bounds-out-at-2 : goal.bounds-out-at-2

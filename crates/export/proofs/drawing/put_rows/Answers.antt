@@ -1,7 +1,5 @@
-use Prim.Native.Nat.{◌-◌}
 use native.Mathlib.Omega.{arith}
-use Rattle.export.specs.Picture.{row_bytes}
-use Rattle.export.proofs.Storing.{bytes_length, Drawing, drawing_start, drawing_step, drawing_end}
+use Rattle.export.proofs.Storing.{bytes_length, drawing_start, drawing_step, drawing_end}
 use Rattle.std.proofs.Common.{rules}
 use Rattle.export.proofs.drawing.put_rows.Goals as goal
 

@@ -1,9 +1,7 @@
 -- `put_rows` stores eight bytes for each row: its loop keeps `Drawing`.
 use Prim.Native.Nat.{◌-◌}
-use native.Mathlib.Omega.{arith}
 use Rattle.export.specs.Picture.{row_bytes}
-use Rattle.export.proofs.Storing.{bytes_length, Drawing, drawing_start, drawing_step, drawing_end}
-use Rattle.std.proofs.Common.{rules}
+use Rattle.export.proofs.Storing.{Drawing}
 use Rattle.export.proofs.drawing.put_rows.Given as goal
 
 abbrev pub invariant-loop-x : goal.invariant-loop-x

@@ -1,8 +1,6 @@
 use mathlib.Core.Path.{refl}
-use Prim.Native.Nat.{◌-◌}
 use native.Mathlib.Omega.{arith}
-use Rattle.export.specs.Picture.{rule_bytes}
-use Rattle.export.proofs.Storing.{Drawing, drawing_start, drawing_step, drawing_end}
+use Rattle.export.proofs.Storing.{drawing_start, drawing_step, drawing_end}
 use Rattle.std.proofs.Common.{rules}
 use Rattle.export.proofs.drawing.put_rules.Goals as goal
 

@@ -1,6 +1,5 @@
-use Prim.Native.Nat.{◌-◌}
 use native.Mathlib.Omega.{arith}
-use Rattle.export.proofs.Storing.{Listing, listing_start, listing_step, listing_end}
+use Rattle.export.proofs.Storing.{listing_start, listing_step, listing_end}
 use Rattle.std.proofs.Common.{rules}
 use Rattle.export.proofs.drawing.put_sorts.Goals as goal
 

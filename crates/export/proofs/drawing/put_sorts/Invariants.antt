@@ -1,8 +1,6 @@
 -- `put_sorts` stores one sort after the other: its loop keeps `Listing`.
 use Prim.Native.Nat.{◌-◌}
-use native.Mathlib.Omega.{arith}
-use Rattle.export.proofs.Storing.{Listing, listing_start, listing_step, listing_end}
-use Rattle.std.proofs.Common.{rules}
+use Rattle.export.proofs.Storing.{Listing}
 use Rattle.export.proofs.drawing.put_sorts.Given as goal
 
 abbrev pub invariant-loop-i : goal.invariant-loop-i

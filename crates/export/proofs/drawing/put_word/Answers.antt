@@ -1,8 +1,6 @@
-use Prim.Native.Nat.{◌-◌}
 use native.Mathlib.Omega.{arith}
-use Rattle.export.proofs.Storing.{Spelling, spelling_start, spelling_step, spelling_end}
+use Rattle.export.proofs.Storing.{spelling_start, spelling_step, spelling_end}
 use mathlib.Core.Path.{refl}
-use Rattle.std.proofs.Common.{rules}
 use Rattle.export.proofs.drawing.put_word.Goals as goal
 
 pub loop-k-init : goal.loop-k-init

@@ -1,9 +1,6 @@
 -- `put_word` stores the lowest byte of what is left and goes on with the rest: its loop keeps `Spelling`.
 use Prim.Native.Nat.{◌-◌}
-use native.Mathlib.Omega.{arith}
-use Rattle.export.proofs.Storing.{Spelling, spelling_start, spelling_step, spelling_end}
-use mathlib.Core.Path.{refl}
-use Rattle.std.proofs.Common.{rules}
+use Rattle.export.proofs.Storing.{Spelling}
 use Rattle.export.proofs.drawing.put_word.Given as goal
 
 abbrev pub invariant-loop-k : goal.invariant-loop-k

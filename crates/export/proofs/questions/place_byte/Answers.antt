@@ -2,7 +2,6 @@
 use mathlib.Core.Path.{ap}
 use native.Mathlib.Omega.{arith}
 use Rattle.export.specs.Asked.{place_byte}
-use Rattle.std.proofs.Common.{rules}
 use Rattle.export.proofs.questions.place_byte.Goals as goal
 
 pub returns-in-At : goal.returns-in-At

@@ -1,7 +1,6 @@
 -- `selkaum_initial` draws the founding's policy, once it has seen that there is room for a picture.
 use native.Mathlib.Omega.{arith}
 use Rattle.export.proofs.Asking.{no_founding, founding}
-use Rattle.std.proofs.Common.{rules}
 use Rattle.export.proofs.questions.selkaum_initial.Goals as goal
 
 pub returns-then-policy-lt960 : goal.returns-then-policy-lt960

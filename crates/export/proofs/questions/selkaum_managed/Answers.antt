@@ -4,7 +4,6 @@ use native.Mathlib.Omega.{arith}
 use Rattle.reach.specs.Tables.{view}
 use Rattle.reach.specs.Privileges.{Manages}
 use Rattle.export.proofs.Asking.{set_told}
-use Rattle.std.proofs.Common.{rules}
 use Rattle.export.proofs.questions.selkaum_managed.Goals as goal
 
 pub returns : goal.returns

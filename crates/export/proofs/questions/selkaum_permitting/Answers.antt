@@ -3,7 +3,6 @@ use mathlib.Core.Path.{ap}
 use native.Mathlib.Omega.{arith}
 use Rattle.export.specs.Asked.{place_byte}
 use Rattle.export.proofs.Asking.{byte_told}
-use Rattle.std.proofs.Common.{rules}
 use Rattle.export.proofs.questions.selkaum_permitting.Goals as goal
 
 pub returns : goal.returns

@@ -1,7 +1,6 @@
 -- `selkaum_sort` tells the sort with which the policy of the picture answers.
 use native.Mathlib.Omega.{arith}
 use Rattle.export.proofs.Asking.{byte_told}
-use Rattle.std.proofs.Common.{rules}
 use Rattle.export.proofs.questions.selkaum_sort.Goals as goal
 
 pub returns : goal.returns

@@ -2,7 +2,6 @@
 use native.Mathlib.Omega.{arith}
 use mathlib.Core.Path.{refl}
 use Rattle.export.proofs.Asking.{no_picture, no_room, tells}
-use Rattle.std.proofs.Common.{rules}
 use Rattle.export.proofs.questions.tell_byte.Goals as goal
 
 pub returns-then-picture-ne960 : goal.returns-then-picture-ne960

@@ -3,7 +3,6 @@ use native.Mathlib.Omega.{arith}
 use mathlib.Core.Path.{sym}
 use Rattle.export.proofs.Asking.{no_picture, no_room, tells}
 use Rattle.export.proofs.Storing.{bytes_length}
-use Rattle.std.proofs.Common.{rules}
 use Rattle.export.proofs.questions.tell_set.Goals as goal
 
 pub returns-then-picture-ne960 : goal.returns-then-picture-ne960

@@ -1,7 +1,6 @@
 -- `number_from` reads two bytes, of which the first is the lower one.
 use native.Mathlib.Omega.{arith}
 use Rattle.export.proofs.Queueing.{number_of_two}
-use Rattle.std.proofs.Common.{rules}
 use Rattle.export.proofs.queues.number_from.Goals as goal
 
 pub returns : goal.returns

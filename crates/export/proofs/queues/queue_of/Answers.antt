@@ -1,6 +1,5 @@
 -- `queue_of` puts together the fields that its calls read.
 use Rattle.export.specs.Queued.{queue_from}
-use Rattle.std.proofs.Common.{rules}
 use Rattle.export.proofs.queues.queue_of.Goals as goal
 
 pub returns : goal.returns

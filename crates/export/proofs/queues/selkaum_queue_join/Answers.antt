@@ -2,10 +2,8 @@
 -- fit, it draws nothing.
 use mathlib.Core.Path.{sym, ◌∙◌}
 use native.Mathlib.Omega.{arith}
-use borrow.Author.Tests.{not-true, not-false}
 use Rattle.queue.specs.Stored.{after_join}
 use Rattle.export.proofs.Queueing.{line_long, untold, told}
-use Rattle.std.proofs.Common.{rules}
 use Rattle.export.proofs.queues.selkaum_queue_join.Goals as goal
 
 pub returns-then-not-sizes_fit : goal.returns-then-not-sizes_fit

@@ -2,11 +2,9 @@
 -- fit, it draws nothing.
 use mathlib.Core.Path.{sym, ap, ◌∙◌}
 use native.Mathlib.Omega.{arith}
-use borrow.Author.Tests.{not-true, not-false}
 use Rattle.queue.specs.Rows.{joined_as}
 use Rattle.queue.specs.Stored.{after_leave}
 use Rattle.export.proofs.Queueing.{line_long, untold, told}
-use Rattle.std.proofs.Common.{rules}
 use Rattle.export.proofs.queues.selkaum_queue_leave.Goals as goal
 
 pub returns-then-not-sizes_fit : goal.returns-then-not-sizes_fit

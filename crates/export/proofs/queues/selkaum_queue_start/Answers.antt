@@ -1,7 +1,6 @@
 -- `selkaum_queue_start` draws the empty line, once it has seen that there are 16 bytes for it.
 use native.Mathlib.Omega.{arith}
 use Rattle.export.proofs.Queueing.{no_line, started}
-use Rattle.std.proofs.Common.{rules}
 use Rattle.export.proofs.queues.selkaum_queue_start.Goals as goal
 
 pub returns-then-queue-ne16 : goal.returns-then-queue-ne16

@@ -1,11 +1,9 @@
 -- `selkaum_queue_tick` draws the record after a tick, by the policy and the record that it reads. Where the sizes do not
 -- fit, it draws nothing.
 use mathlib.Core.Path.{refl, sym, ap, ◌∙◌}
-use borrow.Author.Tests.{not-true, not-false}
 use Rattle.queue.specs.Rows.{joined_as}
 use Rattle.queue.specs.Stored.{after_tick}
 use Rattle.export.proofs.Queueing.{line_long, untold, told}
-use Rattle.std.proofs.Common.{rules}
 use Rattle.export.proofs.queues.selkaum_queue_tick.Goals as goal
 
 pub returns-then-not-sizes_fit : goal.returns-then-not-sizes_fit

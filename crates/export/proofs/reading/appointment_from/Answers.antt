@@ -1,5 +1,4 @@
 -- `appointment_from` reads four bytes, each by a call.
-use Rattle.std.proofs.Common.{rules}
 use Rattle.export.proofs.reading.appointment_from.Goals as goal
 
 pub returns : goal.returns

@@ -1,7 +1,5 @@
-use Prim.Native.Nat.{◌-◌}
 use native.Mathlib.Omega.{arith}
-use Rattle.export.specs.Picture.{appointment_at}
-use Rattle.export.proofs.Tabling.{Tabled, tabled_start, tabled_step, tabled_end}
+use Rattle.export.proofs.Tabling.{tabled_start, tabled_step, tabled_end}
 use Rattle.std.proofs.Common.{rules}
 use Rattle.export.proofs.reading.appointments_of.Goals as goal
 

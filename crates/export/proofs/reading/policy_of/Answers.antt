@@ -1,6 +1,5 @@
 -- `policy_of` puts together the four tables that its calls read.
 use Rattle.export.specs.Picture.{policy_of}
-use Rattle.std.proofs.Common.{rules}
 use Rattle.export.proofs.reading.policy_of.Goals as goal
 
 pub returns : goal.returns

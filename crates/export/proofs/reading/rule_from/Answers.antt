@@ -1,5 +1,4 @@
 -- `rule_from` reads four bytes, each by a call.
-use Rattle.std.proofs.Common.{rules}
 use Rattle.export.proofs.reading.rule_from.Goals as goal
 
 pub returns : goal.returns

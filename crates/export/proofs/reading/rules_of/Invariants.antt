@@ -1,9 +1,7 @@
 -- `rules_of` fills the table place by place: its loop keeps `Tabled`.
 use Prim.Native.Nat.{◌-◌}
-use native.Mathlib.Omega.{arith}
 use Rattle.export.specs.Picture.{rule_at}
-use Rattle.export.proofs.Tabling.{Tabled, tabled_start, tabled_step, tabled_end}
-use Rattle.std.proofs.Common.{rules}
+use Rattle.export.proofs.Tabling.{Tabled}
 use Rattle.export.proofs.reading.rules_of.Given as goal
 
 abbrev pub invariant-loop-i : goal.invariant-loop-i

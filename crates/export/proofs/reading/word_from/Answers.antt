@@ -1,5 +1,5 @@
 use native.Mathlib.Omega.{arith}
-use Rattle.export.proofs.Tabling.{Numbered, numbered_start, numbered_room, numbered_step, numbered_end}
+use Rattle.export.proofs.Tabling.{numbered_start, numbered_room, numbered_step, numbered_end}
 use mathlib.Core.Path.{◌∙◌}
 use Rattle.std.proofs.Common.{rules}
 use Rattle.export.proofs.reading.word_from.Goals as goal

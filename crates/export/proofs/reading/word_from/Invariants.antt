@@ -1,8 +1,5 @@
 -- `word_from` goes from the last byte to the first, and takes the word so far 256 times: its loop keeps `Numbered`.
-use native.Mathlib.Omega.{arith}
-use Rattle.export.proofs.Tabling.{Numbered, numbered_start, numbered_room, numbered_step, numbered_end}
-use mathlib.Core.Path.{◌∙◌}
-use Rattle.std.proofs.Common.{rules}
+use Rattle.export.proofs.Tabling.{Numbered}
 use Rattle.export.proofs.reading.word_from.Given as goal
 
 abbrev pub invariant-loop-k : goal.invariant-loop-k

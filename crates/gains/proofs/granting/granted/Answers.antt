@@ -1,9 +1,7 @@
 use native.Mathlib.Omega.{arith}
-use Prim.Native.Nat.{ℕ, ◌-◌, ◌≤◌, ◌<◌}
-use lib.ListN.{get_or, length-replicate, get_or-replicate}
-use Rattle.reach.specs.Tables.{no_rule}
-use Rattle.reach.specs.Asking.{HasT}
-use Rattle.gains.proofs.Spreading.{Tabled, tabled_none, tabled_next, tabled_end}
+use Prim.Native.Nat.{ℕ}
+use lib.ListN.{length-replicate, get_or-replicate}
+use Rattle.gains.proofs.Spreading.{tabled_none, tabled_next, tabled_end}
 use Rattle.std.proofs.Common.{rules}
 use Rattle.gains.proofs.granting.granted.Goals as goal
 

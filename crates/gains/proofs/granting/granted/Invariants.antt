@@ -1,11 +1,9 @@
 -- The table joins what each place gives, place by place.
-use native.Mathlib.Omega.{arith}
-use Prim.Native.Nat.{ℕ, ◌-◌, ◌≤◌, ◌<◌}
-use lib.ListN.{get_or, length-replicate, get_or-replicate}
+use Prim.Native.Nat.{◌-◌, ◌≤◌, ◌<◌}
+use lib.ListN.{get_or}
 use Rattle.reach.specs.Tables.{no_rule}
 use Rattle.reach.specs.Asking.{HasT}
-use Rattle.gains.proofs.Spreading.{Tabled, tabled_none, tabled_next, tabled_end}
-use Rattle.std.proofs.Common.{rules}
+use Rattle.gains.proofs.Spreading.{Tabled}
 use Rattle.gains.proofs.granting.granted.Given as goal
 
 abbrev pub invariant-loop-i : goal.invariant-loop-i

@@ -4,7 +4,6 @@ use mathlib.Core.Bool.{true≢false}
 use borrow.Author.Tests.{not-true, not-false}
 use Rattle.reach.proofs.Testing.{decides_at, decides_and}
 use Rattle.reach.proofs.WordSets.{set_as, set_none, has_decides}
-use Rattle.std.proofs.Common.{rules}
 use Rattle.gains.proofs.granting.operations_of.Goals as goal
 
 pub returns-then-not-rule : goal.returns-then-not-rule

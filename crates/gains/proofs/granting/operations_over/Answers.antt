@@ -1,9 +1,5 @@
 use native.Mathlib.Omega.{arith}
-use Prim.Native.Nat.{◌-◌, ◌≤◌}
-use lib.ListN.{get_or}
-use Rattle.reach.specs.Tables.{no_rule}
-use Rattle.reach.proofs.Unions.{Union, union_none, union_add, union_end}
-use Rattle.gains.specs.Searching.{GrantsOver}
+use Rattle.reach.proofs.Unions.{union_none, union_add, union_end}
 use Rattle.std.proofs.Common.{rules}
 use Rattle.gains.proofs.granting.operations_over.Goals as goal
 

@@ -1,11 +1,9 @@
 -- The set is a union over the places of the table.
-use native.Mathlib.Omega.{arith}
 use Prim.Native.Nat.{◌-◌, ◌≤◌}
 use lib.ListN.{get_or}
 use Rattle.reach.specs.Tables.{no_rule}
-use Rattle.reach.proofs.Unions.{Union, union_none, union_add, union_end}
+use Rattle.reach.proofs.Unions.{Union}
 use Rattle.gains.specs.Searching.{GrantsOver}
-use Rattle.std.proofs.Common.{rules}
 use Rattle.gains.proofs.granting.operations_over.Given as goal
 
 abbrev pub invariant-loop-i : goal.invariant-loop-i

@@ -1,9 +1,8 @@
 use mathlib.Core.Path.{◌≡◌}
-use Prim.Native.Nat.{◌-◌, ◌≤◌}
 use lib.ListN.{length, get_or}
 use mir.Syntax.{w64}
 use mir.Val.{Fits}
-use Rattle.gains.proofs.Spreading.{Spreading, spreading_start, spreading_next, spreading_end}
+use Rattle.gains.proofs.Spreading.{spreading_start, spreading_next, spreading_end}
 use Rattle.std.proofs.Common.{rules}
 use Rattle.gains.proofs.granting.spread.Goals as goal
 

@@ -1,11 +1,6 @@
 -- Set by set: those below i are done, and the others are as they were.
-use mathlib.Core.Path.{◌≡◌}
 use Prim.Native.Nat.{◌-◌, ◌≤◌}
-use lib.ListN.{length, get_or}
-use mir.Syntax.{w64}
-use mir.Val.{Fits}
-use Rattle.gains.proofs.Spreading.{Spreading, spreading_start, spreading_next, spreading_end}
-use Rattle.std.proofs.Common.{rules}
+use Rattle.gains.proofs.Spreading.{Spreading}
 use Rattle.gains.proofs.granting.spread.Given as goal
 
 abbrev pub invariant-loop-i : goal.invariant-loop-i

@@ -2,7 +2,6 @@
 use Prim.Native.Nat.{◌-◌, ◌^◌}
 use lib.Bits.{and_comm}
 use Rattle.gains.proofs.PutOver.{some_lacks}
-use Rattle.std.proofs.Common.{rules}
 use Rattle.gains.proofs.handing.hands_over.Goals as goal
 
 pub returns : goal.returns

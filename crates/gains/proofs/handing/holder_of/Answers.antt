@@ -7,7 +7,6 @@ use Rattle.reach.specs.Words.{bit, has, SetOf}
 use Rattle.reach.proofs.Testing.{decides_at}
 use Rattle.reach.proofs.WordSets.{set_as, set_none, has_decides}
 use Rattle.gains.specs.Lacking.{HolderOf}
-use Rattle.std.proofs.Common.{rules}
 use Rattle.gains.proofs.handing.holder_of.Goals as goal
 
 -- The set of one, if its A is in the other set.

@@ -1,10 +1,6 @@
 use native.Mathlib.Omega.{arith}
 use mathlib.Core.Path.{◌≡◌}
-use Prim.Native.Nat.{◌-◌, ◌≤◌, ◌<◌}
-use lib.ListN.{get_or}
-use Rattle.reach.specs.Tables.{no_appointment}
-use Rattle.reach.proofs.Unions.{Union, union_none, union_add, union_end}
-use Rattle.gains.specs.Lacking.{HolderOf}
+use Rattle.reach.proofs.Unions.{union_none, union_add, union_end}
 use Rattle.std.proofs.Common.{rules}
 use Rattle.gains.proofs.handing.holders.Goals as goal
 

@@ -1,12 +1,9 @@
 -- Both sets are unions over the places of the table.
-use native.Mathlib.Omega.{arith}
-use mathlib.Core.Path.{◌≡◌}
 use Prim.Native.Nat.{◌-◌, ◌≤◌, ◌<◌}
 use lib.ListN.{get_or}
 use Rattle.reach.specs.Tables.{no_appointment}
-use Rattle.reach.proofs.Unions.{Union, union_none, union_add, union_end}
+use Rattle.reach.proofs.Unions.{Union}
 use Rattle.gains.specs.Lacking.{HolderOf}
-use Rattle.std.proofs.Common.{rules}
 use Rattle.gains.proofs.handing.holders.Given as goal
 
 abbrev pub invariant-loop-i : goal.invariant-loop-i

@@ -3,12 +3,11 @@ use mathlib.Core.Bool.{false, false≢true}
 use native.Mathlib.Omega.{arith}
 use Prim.Native.Nat.{◌<◌}
 use lib.Count.{count_trailing_zeros}
-use lib.ListN.{get_or}
 use Rattle.reach.specs.Words.{bit}
 use Rattle.reach.proofs.Bits.{lowest_bit}
 use Rattle.reach.proofs.Testing.{decides_none, decides_some_at}
 use Rattle.reach.proofs.WordSets.{set_none, set_empty}
-use Rattle.reach.proofs.Gathering.{left_less, Picking, pick_start, pick_step, pick_end}
+use Rattle.reach.proofs.Gathering.{left_less, pick_start, pick_step, pick_end}
 use Rattle.std.proofs.Common.{rules}
 use Rattle.gains.proofs.handing.some_user.Goals as goal
 

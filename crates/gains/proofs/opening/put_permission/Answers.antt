@@ -1,12 +1,10 @@
 -- The tables are what the rules grant him before and after; what the search finds is what he comes to be permitted.
 use native.Mathlib.Omega.{arith}
 use lib.Bits.{or_comm}
-use borrow.Author.Tests.{not-true, not-false}
 use Rattle.reach.proofs.Testing.{decides_at, refuted}
 use Rattle.reach.proofs.WordSets.{decides_has}
 use Rattle.gains.proofs.Searched.{granted_users, put_found_lent}
 use Rattle.gains.proofs.Looking.{over_not, over_too}
-use Rattle.std.proofs.Common.{rules}
 use Rattle.gains.proofs.opening.put_permission.Goals as goal
 
 pub returns-then-not-has : goal.returns-then-not-has

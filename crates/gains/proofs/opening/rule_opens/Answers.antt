@@ -4,7 +4,6 @@ use mathlib.Core.Bool.{true≢false}
 use borrow.Author.Tests.{not-true, not-false}
 use Rattle.reach.proofs.Testing.{decides_as, decides_at, decides_and, decides_or, decides_none}
 use Rattle.reach.proofs.WordSets.{has_decides}
-use Rattle.std.proofs.Common.{rules}
 use Rattle.gains.proofs.opening.rule_opens.Goals as goal
 
 pub returns-then-not-rule : goal.returns-then-not-rule

@@ -1,12 +1,9 @@
 -- The loop has met no rule that opens.
-use native.Mathlib.Omega.{arith}
 use Prim.Native.Nat.{◌-◌, ◌≤◌}
 use lib.ListN.{get_or}
 use Rattle.reach.specs.Tests.{Some}
 use Rattle.reach.specs.Tables.{no_rule}
-use Rattle.reach.proofs.Testing.{refuted, decides_none, decides_some_at, some_not_start, some_not_next, some_not_end}
 use Rattle.gains.specs.Searching.{Opens}
-use Rattle.std.proofs.Common.{rules}
 use Rattle.gains.proofs.opening.rules_open.Given as goal
 
 abbrev pub invariant-loop-i : goal.invariant-loop-i

@@ -4,17 +4,15 @@ use mathlib.Core.Path.{refl}
 use mathlib.Core.Bool.{true, false}
 use Prim.Native.Nat.{◌<◌}
 use native.Mathlib.Omega.{arith}
-use borrow.Author.Tests.{not-true, not-false}
-use Rattle.reach.specs.Tests.{Decides}
 use Rattle.reach.specs.Tables.{Sized, view}
 use Rattle.reach.specs.Reach.{User}
 use Rattle.reach.proofs.Lists.{length_mapped}
 use Rattle.reach.proofs.Testing.{decides_at, decides_and, decides_ltb, decides_none, refuted}
 use Rattle.reach.proofs.WordSets.{decides_has}
 use Rattle.reach.proofs.Meeting.{read_user, climbed}
-use Rattle.gains.specs.Lacking.{Above, LacksRuled}
+use Rattle.gains.specs.Lacking.{Above}
 use Rattle.gains.specs.declared.Gain.TheVariants.{Permission, Nothing}
-use Rattle.gains.proofs.Outright.{new_rule, grant_own_gain, grant_gains_none}
+use Rattle.gains.proofs.Outright.{grant_own_gain, grant_gains_none}
 use Rattle.gains.proofs.Searched.{granted_users, grant_found}
 use Rattle.gains.proofs.Covering.{none_lacks_ruled}
 use Rattle.gains.proofs.Looking.{decides_found}

@@ -2,7 +2,6 @@
 use native.Mathlib.Omega.{arith}
 use Rattle.reach.proofs.Testing.{decides_as, decides_none}
 use Rattle.gains.proofs.Lending.{climbed_lent, above_none, above_some, pair_lacked}
-use Rattle.std.proofs.Common.{rules}
 use Rattle.gains.proofs.putting.lacks_first.Goals as goal
 
 pub returns-then-over-eq0 : goal.returns-then-over-eq0

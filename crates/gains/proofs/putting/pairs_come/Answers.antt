@@ -3,7 +3,6 @@ use native.Mathlib.Omega.{arith}
 use Rattle.reach.proofs.Testing.{decides_none}
 use Rattle.gains.proofs.PutSides.{left_at, second_at, first_at, none_opened, second_found, first_tells}
 use Rattle.gains.proofs.Looking.{decides_found}
-use Rattle.std.proofs.Common.{rules}
 use Rattle.gains.proofs.putting.pairs_come.Goals as goal
 
 pub returns-then-opened-eq0 : goal.returns-then-opened-eq0

@@ -9,7 +9,6 @@ use Rattle.reach.specs.Tests.{Decides}
 use Rattle.reach.proofs.Testing.{decides_as, refuted}
 use Rattle.gains.specs.Lacking.{Grows}
 use Rattle.gains.proofs.Looking.{decides_found}
-use Rattle.std.proofs.Common.{rules}
 use Rattle.gains.proofs.putting.posts_grow.Goals as goal
 
 -- Each of the two ways is asked.

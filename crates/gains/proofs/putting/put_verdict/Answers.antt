@@ -2,11 +2,9 @@
 use mathlib.Core.Path.{◌≡◌, sym, ◌∙◌}
 use mathlib.Core.Bool.{true, false, ◌&&◌}
 use native.Mathlib.Omega.{arith}
-use borrow.Author.Tests.{not-true, not-false}
 use Rattle.reach.specs.Reach.{direct}
 use Rattle.rules.specs.Authority.{governs}
 use Rattle.gains.proofs.PutMay.{governs_asked, governs_user, governs_used, both_first, put_already, put_unentitled, put_entitled}
-use Rattle.std.proofs.Common.{rules}
 use Rattle.gains.proofs.putting.put_verdict.Goals as goal
 
 pub returns-then-asked : goal.returns-then-asked

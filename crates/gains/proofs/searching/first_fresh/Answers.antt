@@ -1,11 +1,10 @@
-use mathlib.Core.Path.{◌≡◌, refl, sym, ◌∙◌, subst}
+use mathlib.Core.Path.{refl, sym, ◌∙◌, subst}
 use mathlib.Core.Logic.{⊎_elim}
 use native.Mathlib.Omega.{arith}
-use Prim.Native.Nat.{ℕ, ◌-◌, ◌≤◌, ◌<◌}
+use Prim.Native.Nat.{ℕ, ◌<◌}
 use borrow.Author.Count.{below_more}
 use Rattle.reach.proofs.Testing.{refuted}
 use Rattle.reach.proofs.WordSets.{below_next}
-use Rattle.gains.specs.declared.Gain.TheVariants.{Nothing}
 use Rattle.gains.specs.Searching.{Fresh, FirstFresh}
 use Rattle.gains.proofs.Looking.{fresh_at, at_fresh, fresh_move, target_below}
 use Rattle.std.proofs.Common.{rules}

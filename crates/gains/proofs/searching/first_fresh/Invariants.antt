@@ -1,16 +1,9 @@
 -- Target by target and operation by operation: nothing before the place of the search is fresh, and what is found there is. What is no
 -- target is passed over.
-use mathlib.Core.Path.{◌≡◌, refl, sym, ◌∙◌, subst}
-use mathlib.Core.Logic.{⊎_elim}
-use native.Mathlib.Omega.{arith}
+use mathlib.Core.Path.{◌≡◌}
 use Prim.Native.Nat.{ℕ, ◌-◌, ◌≤◌, ◌<◌}
-use borrow.Author.Count.{below_more}
-use Rattle.reach.proofs.Testing.{refuted}
-use Rattle.reach.proofs.WordSets.{below_next}
 use Rattle.gains.specs.declared.Gain.TheVariants.{Nothing}
-use Rattle.gains.specs.Searching.{Fresh, FirstFresh}
-use Rattle.gains.proofs.Looking.{fresh_at, at_fresh, fresh_move, target_below}
-use Rattle.std.proofs.Common.{rules}
+use Rattle.gains.specs.Searching.{Fresh}
 use Rattle.gains.proofs.searching.first_fresh.Given as goal
 
 abbrev pub invariant-loop-operation : goal.invariant-loop-operation

@@ -1,13 +1,12 @@
 use Rattle.reach.proofs.WordSets.{decides_has, set_bits, set_below, below_next}
 use Rattle.reach.proofs.Testing.{decides_at, refuted}
-use mathlib.Core.Path.{subst, ◌≡◌, refl, sym, ◌∙◌}
+use mathlib.Core.Path.{subst, refl, sym, ◌∙◌}
 use Rattle.gains.specs.Searching.{FirstNew, New}
 use native.Mathlib.Omega.{arith}
-use Prim.Native.Nat.{ℕ, ◌-◌, ◌≤◌, ◌<◌}
+use Prim.Native.Nat.{ℕ, ◌<◌}
 use lib.ListN.{get_or}
 use mir.Syntax.{w64}
 use mir.Val.{Fits}
-use Rattle.gains.specs.declared.Gain.TheVariants.{Nothing}
 use borrow.Author.Count.{below_more}
 use mathlib.Core.Logic.{⊎_elim}
 use Rattle.gains.proofs.News.{new_set}

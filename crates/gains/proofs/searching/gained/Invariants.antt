@@ -1,19 +1,10 @@
 -- Number by number and row by row: nothing before the place of the search is new, and what is found there is. A number that is passed over
 -- is new in no row.
-use Rattle.reach.proofs.WordSets.{decides_has, set_bits, set_below, below_next}
-use Rattle.reach.proofs.Testing.{decides_at, refuted}
-use mathlib.Core.Path.{subst, ◌≡◌, refl, sym, ◌∙◌}
-use Rattle.gains.specs.Searching.{FirstNew, New}
-use native.Mathlib.Omega.{arith}
+use mathlib.Core.Path.{◌≡◌}
+use Rattle.gains.specs.Searching.{New}
 use Prim.Native.Nat.{ℕ, ◌-◌, ◌≤◌, ◌<◌}
 use lib.ListN.{get_or}
-use mir.Syntax.{w64}
-use mir.Val.{Fits}
 use Rattle.gains.specs.declared.Gain.TheVariants.{Nothing}
-use borrow.Author.Count.{below_more}
-use mathlib.Core.Logic.{⊎_elim}
-use Rattle.gains.proofs.News.{new_set}
-use Rattle.std.proofs.Common.{rules}
 use Rattle.gains.proofs.searching.gained.Given as goal
 
 abbrev pub invariant-loop-k : goal.invariant-loop-k

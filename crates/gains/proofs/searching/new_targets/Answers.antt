@@ -1,10 +1,8 @@
 use native.Mathlib.Omega.{arith}
-use Prim.Native.Nat.{◌-◌, ◌≤◌}
 use lib.ListN.{get_or}
 use mir.Syntax.{w64}
 use mir.Val.{Fits}
-use Rattle.reach.proofs.Unions.{Union, union_none, union_add, union_end}
-use Rattle.gains.specs.Searching.{New}
+use Rattle.reach.proofs.Unions.{union_none, union_add, union_end}
 use Rattle.gains.proofs.News.{new_set}
 use Rattle.std.proofs.Common.{rules}
 use Rattle.gains.proofs.searching.new_targets.Goals as goal

@@ -1,13 +1,8 @@
 -- The set is a union over the operations: after i of them it has what is new under one below i.
-use native.Mathlib.Omega.{arith}
 use Prim.Native.Nat.{◌-◌, ◌≤◌}
 use lib.ListN.{get_or}
-use mir.Syntax.{w64}
-use mir.Val.{Fits}
-use Rattle.reach.proofs.Unions.{Union, union_none, union_add, union_end}
+use Rattle.reach.proofs.Unions.{Union}
 use Rattle.gains.specs.Searching.{New}
-use Rattle.gains.proofs.News.{new_set}
-use Rattle.std.proofs.Common.{rules}
 use Rattle.gains.proofs.searching.new_targets.Given as goal
 
 abbrev pub invariant-loop-i : goal.invariant-loop-i

@@ -1,6 +1,5 @@
 -- By kind: both are managed, or the first is owned.
 use borrow.Author.Tests.{eq-eqb, ne_eqb}
-use Rattle.std.proofs.Common.{rules}
 use Rattle.judge.proofs.authority.appoints.Goals as goal
 
 pub returns-then-kind-eq3 : goal.returns-then-kind-eq3

@@ -1,6 +1,5 @@
 -- B, if the kind is an administrator's, and no object otherwise.
 use borrow.Author.Tests.{eq-eqb, ne_eqb}
-use Rattle.std.proofs.Common.{rules}
 use Rattle.judge.proofs.authority.side_of.Goals as goal
 
 pub returns-then-kind-eq3 : goal.returns-then-kind-eq3

@@ -1,6 +1,5 @@
 -- `after` carries the request out: each arm is the successor that the rules name for that kind.
 use Rattle.rules.specs.Doing.{after}
-use Rattle.std.proofs.Common.{rules}
 use Rattle.judge.proofs.doing.after.Goals as goal
 
 pub returns-in-Make : goal.returns-in-Make

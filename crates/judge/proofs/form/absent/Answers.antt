@@ -2,7 +2,6 @@
 use Rattle.rules.specs.Refusals.{absent}
 use Rattle.judge.proofs.Sorting.{empty_lent}
 use Rattle.judge.proofs.Naming.{dismiss_named, withdraw_named}
-use Rattle.std.proofs.Common.{rules}
 use Rattle.judge.proofs.form.absent.Goals as goal
 
 pub returns-in-Make : goal.returns-in-Make

@@ -1,6 +1,5 @@
 -- `misfit` is its definition, by the contracts of what it calls.
 use Rattle.rules.specs.Refusals.{misfit}
-use Rattle.std.proofs.Common.{rules}
 use Rattle.judge.proofs.form.misfit.Goals as goal
 
 pub returns : goal.returns

@@ -1,6 +1,5 @@
 -- Check 5 is its definition, kind by kind.
 use Rattle.rules.specs.Refusals.{off_the_sheet}
-use Rattle.std.proofs.Common.{rules}
 use Rattle.judge.proofs.form.off_the_sheet.Goals as goal
 
 pub returns-in-Make : goal.returns-in-Make

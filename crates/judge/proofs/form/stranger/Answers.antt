@@ -1,7 +1,6 @@
 -- Check 4, by the lent sorts.
 use mathlib.Core.Path.{sym}
 use Rattle.judge.proofs.Sorting.{stranger_lent}
-use Rattle.std.proofs.Common.{rules}
 use Rattle.judge.proofs.form.stranger.Goals as goal
 
 pub returns : goal.returns

@@ -1,6 +1,5 @@
 -- `torn` is its definition, by the contract of `length_field`.
 use Rattle.rules.specs.Refusals.{torn}
-use Rattle.std.proofs.Common.{rules}
 use Rattle.judge.proofs.form.torn.Goals as goal
 
 pub returns : goal.returns

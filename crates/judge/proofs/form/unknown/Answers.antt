@@ -1,6 +1,5 @@
 -- `unknown` is its definition, by the contract of `kind_field`.
 use Rattle.rules.specs.Refusals.{unknown}
-use Rattle.std.proofs.Common.{rules}
 use Rattle.judge.proofs.form.unknown.Goals as goal
 
 pub returns : goal.returns

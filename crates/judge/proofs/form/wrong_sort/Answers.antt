@@ -1,7 +1,6 @@
 -- Check 7, kind by kind: the lent sorts say of what sort an object is.
 use Rattle.rules.specs.Refusals.{wrong_sort}
 use Rattle.judge.proofs.Sorting.{sort_lent}
-use Rattle.std.proofs.Common.{rules}
 use Rattle.judge.proofs.form.wrong_sort.Goals as goal
 
 pub returns-in-Make : goal.returns-in-Make

@@ -14,7 +14,6 @@ use Rattle.gains.specs.Giving.{FirstPermission}
 use Rattle.judge.specs.declared.Decision.{Decision}
 use Rattle.judge.specs.Answering.{decided}
 use Rattle.judge.specs.Telling.{OwnGainOf}
-use Rattle.std.proofs.Common.{rules}
 use Rattle.judge.proofs.gaining.own_gain_of.Goals as goal
 
 module _ (p : Policy) (b : List ℕ) (v : Verdict) (code : ℕ) (judged : v ≡ (judge p b).verdict) (coded : code ≡ code_of v) where

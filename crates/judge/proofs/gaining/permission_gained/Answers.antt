@@ -13,7 +13,6 @@ use Rattle.reach.proofs.WordSets.{set_as, set_at}
 use Rattle.rules.specs.declared.Request.{Request}
 use Rattle.rules.specs.Doing.{after}
 use Rattle.gains.proofs.FirstFound.{PermittedThere, first_permission}
-use Rattle.std.proofs.Common.{rules}
 use Rattle.judge.proofs.gaining.permission_gained.Goals as goal
 
 module _ (p : Policy) (u : ℕ) {objects : ℕ} (o : SetOf objects (InUse (view p))) {t : List ℕ} where

@@ -1,12 +1,8 @@
-use mathlib.Core.Path.{◌≡◌}
-use Prim.Native.Nat.{ℕ, ◌-◌, ◌≤◌}
+use Prim.Native.Nat.{ℕ}
 use native.Mathlib.Omega.{arith}
 use lib.ListN.{length-replicate}
-use Rattle.reach.specs.Words.{bit}
-use Rattle.reach.specs.Tables.{view}
-use Rattle.reach.specs.Privileges.{Permitted}
 use Rattle.reach.proofs.WordSets.{set_mask}
-use Rattle.judge.proofs.Filling.{Filled, filled_none, filled_next, filled_all}
+use Rattle.judge.proofs.Filling.{filled_none, filled_next, filled_all}
 use Rattle.std.proofs.Common.{rules}
 use Rattle.judge.proofs.gaining.permissions.Goals as goal
 

@@ -1,14 +1,10 @@
 -- The table is worked out operation by operation, and each row is what is permitted, of the objects.
 use mathlib.Core.Path.{◌≡◌}
-use Prim.Native.Nat.{ℕ, ◌-◌, ◌≤◌}
-use native.Mathlib.Omega.{arith}
-use lib.ListN.{length-replicate}
+use Prim.Native.Nat.{◌-◌, ◌≤◌}
 use Rattle.reach.specs.Words.{bit}
 use Rattle.reach.specs.Tables.{view}
 use Rattle.reach.specs.Privileges.{Permitted}
-use Rattle.reach.proofs.WordSets.{set_mask}
-use Rattle.judge.proofs.Filling.{Filled, filled_none, filled_next, filled_all}
-use Rattle.std.proofs.Common.{rules}
+use Rattle.judge.proofs.Filling.{Filled}
 use Rattle.judge.proofs.gaining.permissions.Given as goal
 
 abbrev pub invariant-loop-k : goal.invariant-loop-k

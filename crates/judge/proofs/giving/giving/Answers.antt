@@ -10,7 +10,6 @@ use Rattle.rules.specs.Refusals.{own_gain, hand_over}
 use Rattle.gains.specs.Giving.{given_by}
 use Rattle.gains.proofs.Verdicts.{given_alone}
 use Rattle.judge.specs.Kind.{is_put}
-use Rattle.std.proofs.Common.{rules}
 use Rattle.judge.proofs.giving.giving.Goals as goal
 
 abbrev given : Policy → ℕ → Request → Verdict

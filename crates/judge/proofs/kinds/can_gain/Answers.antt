@@ -1,5 +1,4 @@
 -- Each arm is one clause of the definition.
-use Rattle.std.proofs.Common.{rules}
 use Rattle.judge.proofs.kinds.can_gain.Goals as goal
 
 pub returns-in-Appoint : goal.returns-in-Appoint

@@ -1,7 +1,6 @@
 -- Check 12, kind by kind: TAKE and DISMISS are asked of the tables after.
 use Rattle.rules.specs.Refusals.{orphan}
 use Rattle.judge.proofs.Leaving.{take_leaves, dismiss_leaves}
-use Rattle.std.proofs.Common.{rules}
 use Rattle.judge.proofs.orphans.orphan.Goals as goal
 
 pub returns-in-Make : goal.returns-in-Make

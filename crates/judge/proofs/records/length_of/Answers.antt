@@ -1,5 +1,4 @@
 -- The length of each kind is its definition, arm by arm; the last arm is every other number.
-use Rattle.std.proofs.Common.{rules}
 use Rattle.std.proofs.Common.{arith}
 use Rattle.std.proofs.lemmas.Bool.Decides.{nat_tests}
 use Rattle.rules.specs.Records.{length_of}

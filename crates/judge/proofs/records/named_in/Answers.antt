@@ -1,5 +1,4 @@
 -- Each arm is one clause of the definition.
-use Rattle.std.proofs.Common.{rules}
 use Rattle.judge.proofs.records.named_in.Goals as goal
 
 pub returns-in-Make : goal.returns-in-Make

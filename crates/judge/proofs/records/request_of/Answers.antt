@@ -2,7 +2,6 @@
 use Rattle.std.proofs.Common.{arith}
 use Rattle.std.proofs.lemmas.Bool.Decides.{nat_tests}
 use Rattle.rules.specs.Records.{request}
-use Rattle.std.proofs.Common.{rules}
 use Rattle.judge.proofs.records.request_of.Goals as goal
 
 pub returns-in-1 : goal.returns-in-1

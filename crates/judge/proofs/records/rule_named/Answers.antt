@@ -1,5 +1,4 @@
 -- What the table has at the place.
-use Rattle.std.proofs.Common.{rules}
 use Rattle.judge.proofs.records.rule_named.Goals as goal
 
 pub returns : goal.returns

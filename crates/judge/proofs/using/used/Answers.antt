@@ -1,7 +1,6 @@
 -- A USE is decided by the rule that is found; the other kinds are none.
 use mathlib.Core.Bool.{false≢true}
 use Rattle.judge.proofs.ByKind.{same_kind, used_is}
-use Rattle.std.proofs.Common.{rules}
 use Rattle.judge.proofs.using.used.Goals as goal
 
 pub returns-in-Make : goal.returns-in-Make

@@ -1,5 +1,4 @@
 -- `used_by` is its definition: the place that was found, or none.
-use Rattle.std.proofs.Common.{rules}
 use Rattle.judge.proofs.using.used_by.Goals as goal
 
 pub returns-in-At : goal.returns-in-At

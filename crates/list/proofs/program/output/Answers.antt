@@ -3,7 +3,6 @@
 use native.Mathlib.Omega.{arith}
 use Rattle.list.proofs.Demanded.{third}
 use Rattle.list.proofs.Reporting.{printed_too_long, printed_report}
-use Rattle.std.proofs.Common.{rules}
 use Rattle.list.proofs.program.output.Goals as goal
 
 pub returns-then-input-gt65536 : goal.returns-then-input-gt65536

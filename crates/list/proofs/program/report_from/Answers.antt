@@ -1,15 +1,11 @@
 use mathlib.Core.Path.{◌≡◌, sym, ◌∙◌}
-use mathlib.Core.Logic.{⊎_elim}
-use Prim.Native.Nat.{◌-◌, ◌<◌, ◌^◌}
+use Prim.Native.Nat.{◌<◌, ◌^◌}
 use native.Mathlib.Omega.{arith}
 use lib.ListN.{length}
-use Rattle.frame.specs.declared.Step.TheVariants.{Record}
-use Rattle.frame.specs.Reading.{step_at}
-use Rattle.frame.proofs.Steps.{Found, step_record}
+use Rattle.frame.proofs.Steps.{step_record}
 use Rattle.judge.specs.Answering.{answer_by}
 use Rattle.judge.proofs.Ordered.{decided_answer, leaves_after, leaves_cited, leaves_refused}
-use Rattle.list.proofs.Reporting.{Reporting, reporting_start, reporting_record, reporting_torn, reporting_end}
-use Rattle.text.specs.Text.{Bytes}
+use Rattle.list.proofs.Reporting.{reporting_start, reporting_record, reporting_torn, reporting_end}
 use Rattle.std.proofs.Common.{rules}
 use Rattle.list.proofs.program.report_from.Goals as goal
 use Rattle.list.proofs.program.report_from.Goals.{then-code-eq0+then-cited, then-code-eq0+else-cited, else-code-eq0}

@@ -1,11 +1,9 @@
 -- `decide_part` decides the part: the slice between the two places where it lies in the bytes, and no bytes where it does not.
 use mathlib.Core.Path.{◌≡◌, sym, ap, ◌∙◌}
-use mathlib.Core.Logic.{⊎_elim}
 use mathlib.Core.List.{[]}
 use Rattle.judge.specs.Answering.{decided}
 use Rattle.list.specs.Parts.{part}
 use Rattle.list.proofs.Handed.{part_within, part_past, part_falling}
-use Rattle.std.proofs.Common.{rules}
 use Rattle.list.proofs.run.decide_part.Goals as goal
 use Rattle.list.proofs.run.decide_part.Goals.{then-start-end+else-end-bytes, else-start-end}
 

@@ -1,13 +1,9 @@
 use mathlib.Core.Path.{◌≡◌, ◌∙◌}
-use mathlib.Core.Logic.{⊎_elim}
-use Prim.Native.Nat.{◌-◌}
 use native.Mathlib.Omega.{arith}
-use lib.ListN.{length}
 use Rattle.judge.specs.Answering.{answer_by}
 use Rattle.judge.proofs.Ordered.{decided_answer, leaves_after, leaves_cited, leaves_refused}
-use Rattle.list.proofs.Running.{Running, running_start, running_step, running_end, running_codes, running_cited, too_few_codes}
+use Rattle.list.proofs.Running.{running_start, running_step, running_end, running_codes, running_cited, too_few_codes}
 use Rattle.list.proofs.Running.{too_few_cited}
-use Rattle.std.proofs.Common.{rules}
 use Rattle.list.proofs.run.run_from.Goals as goal
 use Rattle.list.proofs.run.run_from.Goals.{then-code-eq0+then-rule, then-code-eq0+else-rule, else-code-eq0}
 

@@ -1,7 +1,6 @@
 -- `run_list` runs the list from the founding, by `run_from`; that demand 3 holds of the list is `third`.
 use Rattle.list.proofs.Demanded.{third}
 use Rattle.list.proofs.Running.{run_into}
-use Rattle.std.proofs.Common.{rules}
 use Rattle.list.proofs.run.run_list.Goals as goal
 
 pub returns : goal.returns

@@ -1,15 +1,10 @@
 -- A call of those from i on is the call of all of them, as long as none was met who is permitted.
-use mathlib.Core.Path.{◌≡◌, refl, sym, ap, ◌∙◌}
-use Prim.Native.Nat.{ℕ, ◌+◌, ◌-◌}
-use native.Mathlib.Omega.{arith}
-use lib.ListN.{length, get_or, take}
+use mathlib.Core.Path.{◌≡◌}
+use Prim.Native.Nat.{◌-◌}
+use lib.ListN.{take}
 use lib.Seq.{slice}
-use Rattle.std.proofs.Common.{rules}
-use Rattle.queue.specs.Line.{free, held, counted, called}
-use Rattle.queue.specs.declared.rows.Row.{Row}
-use Rattle.queue.specs.Stored.{may_at, waiters, queue_of}
-use Rattle.queue.specs.Rows.{held_queue}
-use Rattle.queue.proofs.Placing.{slice_end, called_here, called_past}
+use Rattle.queue.specs.Line.{counted, called}
+use Rattle.queue.specs.Stored.{may_at}
 use Rattle.queue.proofs.Queue.call.Given as goal
 
 abbrev pub invariant-loop-i : goal.invariant-loop-i

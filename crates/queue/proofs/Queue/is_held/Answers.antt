@@ -1,7 +1,6 @@
 -- Each return is one of the tests that `is_held` joins, after those before it have passed.
 use native.Mathlib.Omega.{arith}
 use borrow.Author.Tests.{lt-ltb, le-ltb, le-leb, lt-leb, eq-eqb, ne_eqb}
-use Rattle.std.proofs.Common.{rules}
 use Rattle.queue.specs.Stored.{is_held, fit}
 use Rattle.queue.proofs.Queue.is_held.Goals as goal
 

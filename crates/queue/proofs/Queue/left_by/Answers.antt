@@ -1,7 +1,5 @@
 -- Each return is one row of `after_leave`.
 use mathlib.Core.Path.{sym, ap, ◌∙◌}
-use borrow.Author.Tests.{not-true, not-false}
-use Rattle.std.proofs.Common.{rules}
 use Rattle.queue.specs.declared.rows.Row.{Row}
 use Rattle.queue.specs.Rows.{held_queue}
 use Rattle.queue.proofs.Saying.{sound_record}

@@ -2,8 +2,6 @@
 use mathlib.Core.Path.{sym, ap, ◌∙◌}
 use Prim.Native.Nat.{◌-◌}
 use native.Mathlib.Omega.{arith}
-use borrow.Author.Tests.{not-true, not-false}
-use Rattle.std.proofs.Common.{rules}
 use Rattle.queue.specs.declared.rows.Row.{Row}
 use Rattle.queue.specs.Rows.{held_queue}
 use Rattle.queue.proofs.Saying.{sound_record}

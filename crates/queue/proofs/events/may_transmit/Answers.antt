@@ -2,7 +2,6 @@
 use mathlib.Core.Path.{ap, ◌∙◌}
 use Prim.Native.Nat.{ℕ}
 use lib.Dec.{eqb}
-use Rattle.std.proofs.Common.{rules}
 use Rattle.access.proofs.UseTable.{use_permitted}
 use Rattle.queue.specs.Line.{may_transmit}
 use Rattle.queue.proofs.events.may_transmit.Goals as goal

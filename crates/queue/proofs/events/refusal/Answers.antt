@@ -1,5 +1,4 @@
 -- The judge is asked for operation 2.
-use Rattle.std.proofs.Common.{rules}
 use Rattle.queue.proofs.events.refusal.Goals as goal
 
 pub returns : goal.returns

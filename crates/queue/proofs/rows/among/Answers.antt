@@ -1,8 +1,6 @@
-use mathlib.Core.Path.{◌≡◌, refl, sym, ◌∙◌}
-use Prim.Native.Nat.{◌-◌}
+use mathlib.Core.Path.{◌≡◌, sym, ◌∙◌}
 use native.Mathlib.Omega.{arith}
 use lib.ListN.{length}
-use lib.Seq.{slice}
 use Rattle.std.proofs.Common.{rules}
 use Rattle.queue.specs.Line.{is_in}
 use Rattle.queue.proofs.Placing.{slice_end, in_here, in_past}

@@ -1,12 +1,8 @@
 -- Whether u is at one of the places from i on is whether he is at one of all of them, as long as he was not met.
-use mathlib.Core.Path.{◌≡◌, refl, sym, ◌∙◌}
+use mathlib.Core.Path.{◌≡◌}
 use Prim.Native.Nat.{◌-◌}
-use native.Mathlib.Omega.{arith}
-use lib.ListN.{length}
 use lib.Seq.{slice}
-use Rattle.std.proofs.Common.{rules}
 use Rattle.queue.specs.Line.{is_in}
-use Rattle.queue.proofs.Placing.{slice_end, in_here, in_past}
 use Rattle.queue.proofs.rows.among.Given as goal
 
 abbrev pub invariant-loop-i : goal.invariant-loop-i

@@ -1,8 +1,6 @@
-use mathlib.Core.Path.{◌≡◌, refl, sym, ◌∙◌}
-use Prim.Native.Nat.{◌-◌}
+use mathlib.Core.Path.{◌≡◌, sym, ◌∙◌}
 use native.Mathlib.Omega.{arith}
-use lib.ListN.{length, take}
-use lib.Seq.{slice}
+use lib.ListN.{length}
 use Rattle.std.proofs.Common.{rules}
 use Rattle.queue.specs.Stored.{fit}
 use Rattle.queue.proofs.Placing.{slice_end, fit_large, fit_twice, fit_past}

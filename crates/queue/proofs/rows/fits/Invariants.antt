@@ -1,12 +1,9 @@
 -- Whether the numbers from i on fit is whether all of them do, as long as none was met that does not.
-use mathlib.Core.Path.{◌≡◌, refl, sym, ◌∙◌}
+use mathlib.Core.Path.{◌≡◌}
 use Prim.Native.Nat.{◌-◌}
-use native.Mathlib.Omega.{arith}
-use lib.ListN.{length, take}
+use lib.ListN.{take}
 use lib.Seq.{slice}
-use Rattle.std.proofs.Common.{rules}
 use Rattle.queue.specs.Stored.{fit}
-use Rattle.queue.proofs.Placing.{slice_end, fit_large, fit_twice, fit_past}
 use Rattle.queue.proofs.rows.fits.Given as goal
 
 abbrev pub invariant-loop-i : goal.invariant-loop-i

@@ -1,14 +1,8 @@
 use mathlib.Core.Path.{◌≡◌, refl, ◌∙◌}
-use mathlib.Core.List.{[]}
-use mathlib.Core.Logic.{⊎_elim}
-use Prim.Native.Nat.{◌-◌, ◌≤◌}
 use native.Mathlib.Omega.{arith}
-use lib.ListN.{length, take}
-use lib.Seq.{slice}
+use lib.ListN.{length}
 use Rattle.std.proofs.Common.{rules}
-use Rattle.queue.specs.Line.{without}
-use Rattle.queue.specs.Rows.{row_of}
-use Rattle.queue.proofs.Placing.{add_all, without_here, without_past, without_end}
+use Rattle.queue.proofs.Placing.{without_here, without_past, without_end}
 use Rattle.queue.proofs.rows.others.Goals.{then-w-u, else-w-u}
 use Rattle.queue.proofs.rows.others.Goals as goal
 

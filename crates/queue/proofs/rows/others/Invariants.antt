@@ -1,15 +1,12 @@
 -- What is in the row and those from i on, but for u, are all but for u.
-use mathlib.Core.Path.{◌≡◌, refl, ◌∙◌}
+use mathlib.Core.Path.{◌≡◌}
 use mathlib.Core.List.{[]}
-use mathlib.Core.Logic.{⊎_elim}
 use Prim.Native.Nat.{◌-◌, ◌≤◌}
-use native.Mathlib.Omega.{arith}
-use lib.ListN.{length, take}
+use lib.ListN.{take}
 use lib.Seq.{slice}
-use Rattle.std.proofs.Common.{rules}
 use Rattle.queue.specs.Line.{without}
 use Rattle.queue.specs.Rows.{row_of}
-use Rattle.queue.proofs.Placing.{add_all, without_here, without_past, without_end}
+use Rattle.queue.proofs.Placing.{add_all}
 use Rattle.queue.proofs.rows.others.Given as goal
 
 abbrev pub invariant-loop-i : goal.invariant-loop-i

@@ -1,12 +1,8 @@
 use mathlib.Core.Path.{◌≡◌, refl, ◌∙◌}
-use mathlib.Core.List.{[]}
-use Prim.Native.Nat.{◌+◌, ◌-◌, ◌≤◌}
 use native.Mathlib.Omega.{arith}
 use lib.ListN.{length}
-use lib.Seq.{slice}
 use Rattle.std.proofs.Common.{rules}
-use Rattle.queue.specs.Rows.{row_of}
-use Rattle.queue.proofs.Placing.{add_all, all_more, all_end}
+use Rattle.queue.proofs.Placing.{all_more, all_end}
 use Rattle.queue.proofs.rows.those.Goals as goal
 
 pub loop-i-init : goal.loop-i-init

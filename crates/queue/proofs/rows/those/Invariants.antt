@@ -1,13 +1,10 @@
 -- What is in the row and those from i on are all of them.
-use mathlib.Core.Path.{◌≡◌, refl, ◌∙◌}
+use mathlib.Core.Path.{◌≡◌}
 use mathlib.Core.List.{[]}
 use Prim.Native.Nat.{◌+◌, ◌-◌, ◌≤◌}
-use native.Mathlib.Omega.{arith}
-use lib.ListN.{length}
 use lib.Seq.{slice}
-use Rattle.std.proofs.Common.{rules}
 use Rattle.queue.specs.Rows.{row_of}
-use Rattle.queue.proofs.Placing.{add_all, all_more, all_end}
+use Rattle.queue.proofs.Placing.{add_all}
 use Rattle.queue.proofs.rows.those.Given as goal
 
 abbrev pub invariant-loop-i : goal.invariant-loop-i

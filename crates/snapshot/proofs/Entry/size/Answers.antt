@@ -1,5 +1,4 @@
 -- `size` tells the kinds apart, each with its length.
-use Rattle.std.proofs.Common.{rules}
 use Rattle.snapshot.proofs.Entry.size.Goals as goal
 
 pub returns-in-Granted : goal.returns-in-Granted

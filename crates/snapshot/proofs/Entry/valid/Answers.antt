@@ -1,5 +1,4 @@
 -- `valid` asks of each kind that its place is on its table, and that what stands there is in use.
-use Rattle.std.proofs.Common.{rules}
 use Rattle.snapshot.proofs.Entry.valid.Goals as goal
 
 pub returns-in-Object : goal.returns-in-Object

@@ -1,6 +1,5 @@
 -- `appointed_of` gives a record exactly if the kind is one that counts: then the appointment stands.
 use Rattle.reach.specs.Tables.{standing}
-use Rattle.std.proofs.Common.{rules}
 use Rattle.snapshot.proofs.entries.appointed_of.Goals as goal
 
 pub returns-then-known : goal.returns-then-known

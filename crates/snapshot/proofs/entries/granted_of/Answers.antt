@@ -1,5 +1,4 @@
 -- `granted_of` gives a record exactly if the rule is in use.
-use Rattle.std.proofs.Common.{rules}
 use Rattle.snapshot.proofs.entries.granted_of.Goals as goal
 
 pub returns-then-rule : goal.returns-then-rule

@@ -1,5 +1,4 @@
 -- `object_of` gives a record exactly if the sort is one that counts.
-use Rattle.std.proofs.Common.{rules}
 use Rattle.snapshot.proofs.entries.object_of.Goals as goal
 
 pub returns-then-known : goal.returns-then-known

@@ -2,7 +2,6 @@
 -- Each kind is one case, and a valid appointment has a place below 32.
 use native.Mathlib.Omega.{arith}
 use Rattle.snapshot.proofs.Stepping.{appointed_low}
-use Rattle.std.proofs.Common.{rules}
 use Rattle.snapshot.proofs.reading.appointment_place.Goals as goal
 
 pub returns-in-Membership : goal.returns-in-Membership

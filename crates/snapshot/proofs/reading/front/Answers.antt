@@ -1,7 +1,6 @@
 -- `front` is the record that the bytes begin with, or none.
 -- The four kinds are tried in the order of the definition, and each test is the one that the definition makes.
 use Rattle.snapshot.specs.Loading.{front}
-use Rattle.std.proofs.Common.{rules}
 use Rattle.snapshot.proofs.reading.front.Goals as goal
 
 pub returns-then-headed : goal.returns-then-headed

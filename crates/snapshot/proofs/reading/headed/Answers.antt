@@ -1,6 +1,5 @@
 -- `headed` tells a whole record of n bytes and of kind k.
 -- Its three tests are those of the definition, on the two fields that it reads.
-use Rattle.std.proofs.Common.{rules}
 use Rattle.snapshot.proofs.reading.headed.Goals as goal
 
 pub returns : goal.returns

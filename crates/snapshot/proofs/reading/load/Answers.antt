@@ -1,9 +1,6 @@
 use mathlib.Core.Path.{sym, ◌∙◌}
-use Prim.Native.Nat.{◌-◌}
 use native.Mathlib.Omega.{arith}
-use lib.ListN.{length}
-use borrow.Author.Tests.{not-true, not-false}
-use Rattle.snapshot.proofs.Stepping.{number_small, PartRead, tabled, store_tabled, loading_start}
+use Rattle.snapshot.proofs.Stepping.{number_small, store_tabled, loading_start}
 use Rattle.snapshot.proofs.Stepping.{loading_end, loading_unfit, loading_fallen, record_inside, loading_next}
 use Rattle.std.proofs.Common.{rules}
 use Rattle.snapshot.proofs.reading.load.Goals as goal

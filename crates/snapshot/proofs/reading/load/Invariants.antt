@@ -1,13 +1,8 @@
 -- `load` comes to what the whole card comes to: at each turn the rest of it, read into the policy of the four tables, comes to that.
 -- Each record that is stored takes one step.
-use mathlib.Core.Path.{sym, ◌∙◌}
 use Prim.Native.Nat.{◌-◌}
-use native.Mathlib.Omega.{arith}
 use lib.ListN.{length}
-use borrow.Author.Tests.{not-true, not-false}
-use Rattle.snapshot.proofs.Stepping.{number_small, PartRead, tabled, store_tabled, loading_start}
-use Rattle.snapshot.proofs.Stepping.{loading_end, loading_unfit, loading_fallen, record_inside, loading_next}
-use Rattle.std.proofs.Common.{rules}
+use Rattle.snapshot.proofs.Stepping.{PartRead, tabled}
 use Rattle.snapshot.proofs.reading.load.Given as goal
 
 abbrev pub invariant-loop-at : goal.invariant-loop-at

@@ -2,7 +2,6 @@
 -- a sound policy's own file is loaded; from a sound policy demand 3 holds.
 use mathlib.Core.Path.{sym}
 use Rattle.snapshot.proofs.Theorems.{reads_sound, reads_unsound, with_demand3}
-use Rattle.std.proofs.Common.{rules}
 use Rattle.snapshot.proofs.reading.read_card.Goals as goal
 
 pub returns-then-is_sound : goal.returns-then-is_sound

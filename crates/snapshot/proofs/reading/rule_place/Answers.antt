@@ -1,7 +1,6 @@
 -- `rule_place` is the place of a rule, and another one for every other record; it is on the table.
 -- Each kind is one case, and a valid rule has a place below 64.
 use Rattle.snapshot.proofs.Stepping.{membership_low, granted_low}
-use Rattle.std.proofs.Common.{rules}
 use Rattle.snapshot.proofs.reading.rule_place.Goals as goal
 
 pub returns-in-Membership : goal.returns-in-Membership

@@ -3,7 +3,6 @@
 use Rattle.reach.proofs.OneBit.{or_is_with}
 use Rattle.snapshot.proofs.Records.{object_low}
 use Rattle.snapshot.proofs.Stepping.{membership_low}
-use Rattle.std.proofs.Common.{rules}
 use Rattle.snapshot.proofs.reading.store_low.Goals as goal
 
 pub bounds-sorts-x : goal.bounds-sorts-x

@@ -1,13 +1,9 @@
 -- Place by place: the appointments below i are penned.
 use Prim.Native.Nat.{◌-◌}
-use native.Mathlib.Omega.{arith}
-use mathlib.Core.Path.{ap}
 use lib.ListN.{get_or}
 use Rattle.snapshot.specs.Card.{bytes_of, appointed_of}
 use Rattle.reach.specs.Tables.{no_appointment}
-use Rattle.snapshot.proofs.Penning.{penned_as, Penning, penning_records, penning_next}
-use Rattle.snapshot.proofs.Penning.{penning_end, penning_needed, penning_length, appointments_are}
-use Rattle.std.proofs.Common.{rules}
+use Rattle.snapshot.proofs.Penning.{Penning}
 use Rattle.snapshot.proofs.writing.pen_appointments.Given as goal
 
 abbrev pub invariant-loop-i : goal.invariant-loop-i

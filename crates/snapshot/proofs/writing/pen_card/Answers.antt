@@ -3,7 +3,6 @@ use native.Mathlib.Omega.{arith}
 use Rattle.reach.specs.Tables.{view}
 use Rattle.snapshot.specs.Card.{object_at, membership_at, appointed_at, in_order}
 use Rattle.snapshot.proofs.Penning.{penned_then, records_needed, rows_needed}
-use Rattle.std.proofs.Common.{rules}
 use Rattle.snapshot.proofs.writing.pen_card.Goals as goal
 
 pub pen_memberships-memberships-requires : goal.pen_memberships-memberships-requires

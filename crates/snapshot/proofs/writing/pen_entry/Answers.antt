@@ -1,7 +1,6 @@
 -- A record is put as far as there is room, and counted whole: it has as many bytes as its size says.
 use native.Mathlib.Omega.{arith}
 use Rattle.snapshot.proofs.Records.{size_is, size_small}
-use Rattle.std.proofs.Common.{rules}
 use Rattle.snapshot.proofs.writing.pen_entry.Goals as goal
 
 pub overflow_add-result : goal.overflow_add-result

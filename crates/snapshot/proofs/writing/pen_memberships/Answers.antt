@@ -1,10 +1,6 @@
-use Prim.Native.Nat.{◌-◌}
 use native.Mathlib.Omega.{arith}
-use lib.ListN.{get_or}
-use Rattle.snapshot.specs.Writing.{row_of}
-use Rattle.snapshot.proofs.Penning.{penned_as, Penning, penning_rows, penning_next}
+use Rattle.snapshot.proofs.Penning.{penned_as, penning_rows, penning_next}
 use Rattle.snapshot.proofs.Penning.{penning_end, penning_needed, penning_length, memberships_are}
-use Rattle.std.proofs.Common.{rules}
 use Rattle.snapshot.proofs.writing.pen_memberships.Goals as goal
 
 pub loop-x-init : goal.loop-x-init

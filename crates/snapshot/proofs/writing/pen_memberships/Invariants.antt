@@ -1,11 +1,8 @@
 -- Object by object: the rows of the objects below x are penned, each by the set of its groups.
 use Prim.Native.Nat.{◌-◌}
-use native.Mathlib.Omega.{arith}
 use lib.ListN.{get_or}
 use Rattle.snapshot.specs.Writing.{row_of}
-use Rattle.snapshot.proofs.Penning.{penned_as, Penning, penning_rows, penning_next}
-use Rattle.snapshot.proofs.Penning.{penning_end, penning_needed, penning_length, memberships_are}
-use Rattle.std.proofs.Common.{rules}
+use Rattle.snapshot.proofs.Penning.{Penning}
 use Rattle.snapshot.proofs.writing.pen_memberships.Given as goal
 
 abbrev pub invariant-loop-x : goal.invariant-loop-x

@@ -1,11 +1,9 @@
-use Prim.Native.Nat.{◌-◌}
 use native.Mathlib.Omega.{arith}
 use mathlib.Core.Path.{ap}
 use lib.ListN.{get_or}
 use Rattle.snapshot.specs.Card.{bytes_of, object_of}
-use Rattle.snapshot.proofs.Penning.{penned_as, Penning, penning_records, penning_next}
+use Rattle.snapshot.proofs.Penning.{penned_as, penning_records, penning_next}
 use Rattle.snapshot.proofs.Penning.{penning_end, penning_needed, penning_length, objects_are}
-use Rattle.std.proofs.Common.{rules}
 use Rattle.snapshot.proofs.writing.pen_objects.Goals as goal
 
 pub loop-x-init : goal.loop-x-init

@@ -1,5 +1,5 @@
 use native.Mathlib.Omega.{arith}
-use Rattle.snapshot.proofs.Rowing.{rest_less, lowest_low, Rowing, rowing_start}
+use Rattle.snapshot.proofs.Rowing.{rest_less, lowest_low, rowing_start}
 use Rattle.snapshot.proofs.Rowing.{rowing_needed, rowing_length, rowing_next, rowing_end}
 use Rattle.std.proofs.Common.{rules}
 use Rattle.snapshot.proofs.writing.pen_row.Goals as goal

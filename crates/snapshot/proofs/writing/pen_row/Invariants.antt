@@ -1,8 +1,5 @@
 -- Group by group, the lowest first: what is left of the set has just the groups from a place on, and those before it are penned.
-use native.Mathlib.Omega.{arith}
-use Rattle.snapshot.proofs.Rowing.{rest_less, lowest_low, Rowing, rowing_start}
-use Rattle.snapshot.proofs.Rowing.{rowing_needed, rowing_length, rowing_next, rowing_end}
-use Rattle.std.proofs.Common.{rules}
+use Rattle.snapshot.proofs.Rowing.{Rowing}
 use Rattle.snapshot.proofs.writing.pen_row.Given as goal
 
 abbrev pub invariant-loop-left : goal.invariant-loop-left

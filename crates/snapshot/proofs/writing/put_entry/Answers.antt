@@ -1,6 +1,5 @@
 -- A record is put as its length and kind, and then its fields; an empty place puts nothing.
 use Rattle.text.proofs.Writing.{wrote_then, wrote_none}
-use Rattle.std.proofs.Common.{rules}
 use Rattle.snapshot.proofs.writing.put_entry.Goals as goal
 
 pub returns-in-Object : goal.returns-in-Object

@@ -1,6 +1,5 @@
 -- Four bytes are put one after the other.
 use Rattle.text.proofs.Writing.{wrote_then}
-use Rattle.std.proofs.Common.{rules}
 use Rattle.snapshot.proofs.writing.put_four.Goals as goal
 
 pub returns : goal.returns

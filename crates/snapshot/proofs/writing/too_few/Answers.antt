@@ -6,7 +6,6 @@ use lib.Dec.{ltb}
 use Rattle.reach.proofs.Testing.{decides_at, decides_ltb}
 use Rattle.soundness.proofs.Fitting.{never}
 use Rattle.snapshot.proofs.Largest.{largest_file}
-use Rattle.std.proofs.Common.{rules}
 use Rattle.snapshot.proofs.writing.too_few.Goals as goal
 
 pub returns-then-room-ge25376 : goal.returns-then-room-ge25376

@@ -2,7 +2,6 @@
 use mathlib.Core.Path.{◌≡◌, ap}
 use Prim.Native.Nat.{ℕ, ◌≤◌, ◌<◌}
 use native.Mathlib.Omega.{arith}
-use borrow.Author.Tests.{not-true, not-false}
 use Rattle.reach.proofs.Testing.{refuted}
 use Rattle.snapshot.specs.declared.Status.{Status}
 use Rattle.snapshot.specs.declared.Status.TheVariants.{Done, Damaged, Short}

@@ -1,6 +1,5 @@
 -- The one more stands at the place of the count.
 use mathlib.Core.Path.{refl}
-use Rattle.std.proofs.Common.{rules}
 use Rattle.queue.proofs.rows.Row.added.Goals as goal
 
 pub returns : goal.returns
