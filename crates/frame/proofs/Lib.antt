@@ -4,4 +4,3 @@ pub mod Steps
 pub mod Records
 pub mod Counting
 
--- What the walks of `Reader` share.
