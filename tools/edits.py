@@ -1,17 +1,13 @@
 """The wrong boards, as edits of the crates: how they are found, read, chosen and made.
 
-An edit is a file of `crates/CRATE/must-fail/` or of `crates/CRATE/must-fail/quick/`, by the rule of `rt must-fail`: one
-or more replacements, a `file:` line holding for the pairs of `old:` and `new:` after it. The kit tries the edits of the
-first folder, and tools/refuse_boards.py those of the second.
+An edit is a file of `crates/CRATE/must-fail/`, by the rule of `rt must-fail`: one or more replacements, a `file:` line
+holding for the pairs of `old:` and `new:` after it.
 """
 
-import shutil
 from pathlib import Path
 from typing import NamedTuple, Tuple
 
 from kit import Fault
-
-PARTS = ("src", "specs", "proofs")  # what a crate is proved from
 
 
 class BadEdit(Exception):
@@ -30,7 +26,6 @@ class Edit(NamedTuple):
     crate: str
     name: str
     changes: Tuple[Change, ...]
-    quick: bool = False  # whether it is one of the folder `quick`
 
 
 def changes_in(text):
@@ -69,19 +64,14 @@ def make(edit, tree):
 
 
 def all_edits(root):
-    """The edits of a repository, by crate and name. Each is in a folder whose edits are tried, and no two of a crate
-    have the same name.
-    """
-    edits = {}
-    for path in sorted(root.glob("crates/**/*.edit")):
-        folder = path.relative_to(root / "crates").parent
-        crate, quick = folder.parts[0], folder.parts[1:] == ("must-fail", "quick")
-        if not quick and folder.parts[1:] != ("must-fail",):
+    """The edits of a repository, by crate and name. Each is in a folder whose edits are tried."""
+    edits = []
+    for path in sorted(root.glob("crates/*/must-fail/**/*.edit")):
+        crate, *folder = path.relative_to(root / "crates").parent.parts
+        if folder != ["must-fail"]:
             raise Fault(f"{path.relative_to(root)} is in no folder whose edits are tried")
-        if (crate, path.stem) in edits:
-            raise Fault(f"{crate}/{path.stem} is the name of two edits")
-        edits[crate, path.stem] = Edit(crate, path.stem, changes_in(path.read_text("utf-8")), quick)
-    return [edits[key] for key in sorted(edits)]
+        edits.append(Edit(crate, path.stem, changes_in(path.read_text("utf-8"))))
+    return edits
 
 
 def chosen(edits, words):
@@ -90,11 +80,3 @@ def chosen(edits, words):
         if not any(word in (edit.crate, f"{edit.crate}/{edit.name}") for edit in edits):
             raise Fault(f"{word}: no crate with edits, and no edit as CRATE/NAME")
     return [edit for edit in edits if not words or {edit.crate, f"{edit.crate}/{edit.name}"} & set(words)]
-
-
-def copy_crate(root, crate, tree):
-    """Copy what a crate is proved from into a tree."""
-    for part in PARTS:
-        source = root / "crates" / crate / part
-        if source.is_dir():
-            shutil.copytree(source, tree / "crates" / crate / part)

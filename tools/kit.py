@@ -1,7 +1,6 @@
-"""Where the Rattle kit is, and how its parts are called."""
+"""Where the Rattle kit is, and what its libraries and those of a repository are made from."""
 
-import os
-import platform
+import re
 import shutil
 from pathlib import Path
 
@@ -11,32 +10,36 @@ class Fault(Exception):
 
 
 def home():
-    """The folder of the Rattle kit, found as rt finds it."""
+    """The folder of the Rattle kit, found by its command rt."""
     rt = shutil.which("rt")
-    folder = os.environ.get("RATTLE_HOME") or (rt and Path(rt).resolve().parent.parent)
-    if not folder or not own(Path(folder)).is_dir():
-        raise Fault("the Rattle kit is needed, and it is not found by its command rt or by RATTLE_HOME")
-    return Path(folder)
-
-
-def own(folder):
-    """The part of the kit that was made for this kind of machine."""
-    return folder / "on" / platform.machine()
+    folder = rt and Path(rt).resolve().parent.parent
+    if not folder or not (folder / "rlibs").is_dir():
+        raise Fault("the Rattle kit is needed, and it is not found by its command rt")
+    return folder
 
 
 def depends(path):
-    """The lines `NAME: DEP DEP ..` of a file, as a table."""
+    """The lines `NAME: DEP DEP ..` of a crates.txt, as a table; a word behind NAME says what kind of crate it is."""
     lines = (line.partition("#")[0].partition(":") for line in path.read_text("utf-8").splitlines())
-    return {name.strip(): deps.split() for name, colon, deps in lines if colon}
+    return {name.split()[0]: deps.split() for name, colon, deps in lines if colon}
 
 
-def check_words(folder, root, crate, source):
-    """The words by which `rt must-fail` has a crate checked whose root file is in the folder `source`."""
-    made, ours = own(folder), depends(root / "crates.txt")
-    file = next(path for path in (source / "main.rt", source / "lib.rt") if path.is_file())
-    words = [made / "bin/rattle", "check", "--crate-name", crate, file, "--extern", f"std={made}/rlib/std.rlib"]
-    for name in ours[crate]:
-        words += ["--extern", f"{name}={root / 'target' if name in ours else made}/rlib/{name}.rlib"]
-    words += ["-L", f"dependency={root}/target/rlib", "-L", f"dependency={made}/rlib"]
-    words += ["--antt-project", folder / "logic/antt-project.json", "--logic-built", made / "logic-built"]
-    return [str(word) for word in words]
+def below(folder, name):
+    """The libraries that a library of the kit uses."""
+    return re.findall(r"^dep (\w+)$", (folder / f"rlibs/{name}.rlib/format").read_text("utf-8"), re.MULTILINE)
+
+
+def libraries(folder, tree, direct):
+    """Each library that a program with these dependencies reaches: its own dependencies and its root file, by name."""
+    ours, found, todo = depends(tree / "crates.txt"), {}, ["std", *direct]
+    while todo:
+        name = todo.pop()
+        if name in found:
+            continue
+        if name in ours:
+            uses, root = ["core", "std", *ours[name]], tree / "crates" / name / "src/lib.rt"
+        else:
+            uses, root = below(folder, name), folder / "rattle" / name / "src/lib.rt"
+        found[name] = uses, root
+        todo += uses
+    return found

@@ -3,5 +3,3 @@ pub mod Tried
 pub mod Steps
 pub mod Records
 pub mod Counting
-
--- What the walks of `Reader` share.

@@ -9,6 +9,15 @@ use judge::{cited_of, code_of, judge};
 use queue::Queue;
 use reach::Policy;
 
+// The program's own kinds.
+const START: usize = 32;
+
+const JOIN: usize = 33;
+
+const LEAVE: usize = 34;
+
+const TICK: usize = 35;
+
 // The policy, and the line at the radio.
 #[derive(Clone, Copy)]
 pub struct Club {
@@ -134,16 +143,16 @@ pub fn taken_in(club: Club, bytes: &[u8]) -> Told
     ensures { result ≡ told_of club bytes.now }
 {
     let kind = kind_field(bytes);
-    if kind == 32 {
+    if kind == START {
         return started(club, bytes);
     }
-    if kind == 33 {
+    if kind == JOIN {
         return joined(club, bytes);
     }
-    if kind == 34 {
+    if kind == LEAVE {
         return left(club, bytes);
     }
-    if kind == 35 {
+    if kind == TICK {
         return ticked(club, bytes);
     }
     judged(club, bytes)

@@ -113,7 +113,7 @@ encoded_sampled u (Use x k) = refl
 pub hexadecimal : 0x08 ∷ 0x00 ∷ 0x01 ∷ 0x00 ∷ 0x01 ∷ 0x02 ∷ 0x02 ∷ 0x00 ∷ [] ≡ encoded 1 (Make 2 2 0)
 hexadecimal = refl
 
--- ---- The other way round: a well_formed record is the one that is written for what it asks
+-- ---- The other way round: a well-formed record is the one that is written for what it asks
 
 -- The list of the first n values of f, and a list as that of its bytes.
 abbrev values : ℕ → (ℕ → ℕ) → List ℕ

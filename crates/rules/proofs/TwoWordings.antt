@@ -1,4 +1,4 @@
--- The judge accepts exactly the well_formed records whose request is allowed in the second wording, and then what is read of the next
+-- The judge accepts exactly the well-formed records whose request is allowed in the second wording, and then what is read of the next
 -- policy is what that wording says; a refusal changes nothing. Check by check, from the laws of each.
 use mathlib.Core.Path.{◌≡◌, refl, sym, ap, ◌∙◌, subst}
 use mathlib.Core.Bool.{Bool, true, false, ◌||◌}

@@ -1,0 +1,11 @@
+-- `put_saved` prints the code, a space, the length and a line feed: texts one after the other are their join.
+use Rattle.text.proofs.Writing.{wrote_then, printed_of_wrote}
+use Rattle.card.proofs.texts.put_saved.Goals as goal
+
+pub returns : goal.returns
+returns c =
+    rw (← c.status_code.ensures)
+    (printed_of_wrote
+    (wrote_then
+    (wrote_then (wrote_then c.put_small-after_code.ensures c.put_byte-at_length.ensures) c.put_number-after_length.ensures)
+    c.put_byte.ensures))
