@@ -44,8 +44,8 @@ loop-x-preserved c =
     UnderSomeBy c.args.sorts.now
     c.args.memberships.now
     c.args.set
-    l.x = let low = c.loop-x-test.true in
-    look_met c.loop-x.invariant.1 _ low (in_use_byte _ _ _ low c.if-sort-eq0.false (omega (arith, c.if-sort-gt3.false)))
+    l.x = let below = c.loop-x-test.true in
+    look_met c.loop-x.invariant.1 _ below (in_use_byte _ _ _ below c.if-sort-eq0.false (omega (arith, c.if-sort-gt3.false)))
     (elim c.if-memberships-x-eq0.branch [ then-memberships-x-eq0+else-set-x-eq0 w ↦ inr w.if-set-x-eq0.false | else-memberships-x-eq0 w ↦ inl w.if-memberships-x-eq0.false ]) in
     let k = c.loop-x.invariant.1 in
     (search rules, look_owned k (grown_group k _ c.loop-x-test.true c.if-sort-ne1.false owned))
