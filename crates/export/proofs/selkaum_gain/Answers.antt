@@ -24,9 +24,7 @@ returns-in-Permission c =
 
 pub returns-in-Nothing : goal.returns-in-Nothing
 returns-in-Nothing c =
-    tells_none _ _ _ _ _
-    c.if-policy-ne960.false
-    (omega (arith, c.if-gain-lt2.false))
+    tells_none _ _ _ _ _ c.if-policy-ne960.false (omega (arith, c.if-gain-lt2.false))
     c.policy_of.ensures
     c.own_gain_of.ensures
     c.in-Nothing.is
