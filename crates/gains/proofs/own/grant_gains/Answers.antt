@@ -17,85 +17,73 @@ use Rattle.gains.proofs.Searched.{granted_users, grant_found}
 use Rattle.gains.proofs.Covering.{none_lacks_ruled}
 use Rattle.gains.proofs.Looking.{decides_found}
 use Rattle.std.proofs.Common.{rules}
+use Rattle.gains.proofs.own.grant_gains.Goals.{After-sort_in-sender, Else-not-place-sender}
 use Rattle.gains.proofs.own.grant_gains.Goals as goal
+
+-- The tables have their sizes, and past the first test the place is on the table and the sender a user.
+sized : (c : After-sort_in-sender) → Sized c.args.p
+sized c = search (rules, length_mapped)
+
+told : (c : Else-not-place-sender) → (c.args.place < 64) × User (view c.args.p) c.args.u
+told c = (decides_and _ _ (decides_ltb _ 64) (read_user c.args.p _ c.sort_in-sender.ensures)).sound c.if-not-place-sender.false
 
 pub returns-then-not-place-sender : goal.returns-then-not-place-sender
 returns-then-not-place-sender c =
-    let sized : Sized c.args.p = record {
-      sorts = search rules;
-      memberships = search rules;
-      appointments = search (rules, length_mapped);
-      rules = search (rules, length_mapped);
-    } in
-    grant_gains_none _ sized _ _ _ _ _
+    let w = goal.at.returns-then-not-place-sender c in
+    let sizes = sized w.After-sort_in-sender in
+    grant_gains_none _ sizes _ _ _ _ _
     (refuted (decides_and _ _ (decides_ltb _ 64) (read_user c.args.p _ c.sort_in-sender.ensures)) c.if-not-place-sender.true)
 
 pub returns-then-not-has : goal.returns-then-not-has
 returns-then-not-has c =
-    let sized : Sized c.args.p = record {
-      sorts = search rules;
-      memberships = search rules;
-      appointments = search (rules, length_mapped);
-      rules = search (rules, length_mapped);
-    } in
-    let told : ((c).args.place < 64) × User (view (c).args.p) (c).args.u = (decides_and _ _ (decides_ltb _ 64) (read_user (c).args.p _ c.sort_in-sender.ensures)).sound c.if-not-place-sender.false in
-    let over : Above (c).args.p (c).args.u c.climb-over.result = climbed _ c.climb-over.ensures in
-    grant_own_gain _ sized _ _ _ _ _ false told.0 told.1
+    let w = goal.at.returns-then-not-has c in
+    let sizes = sized w.After-sort_in-sender in
+    let known = told w.Else-not-place-sender in
+    let over : Above c.args.p c.args.u c.climb-over.result = climbed _ c.climb-over.ensures in
+    grant_own_gain _ sizes _ _ _ _ _ false known.0 known.1
     (decides_none (λ l. refuted (decides_at c.has.ensures (decides_has over _)) c.if-not-has.true l.among))
 
 pub returns-then-rule-operations_over-eq0 : goal.returns-then-rule-operations_over-eq0
 returns-then-rule-operations_over-eq0 c =
-    let sized : Sized c.args.p = record {
-      sorts = search rules;
-      memberships = search rules;
-      appointments = search (rules, length_mapped);
-      rules = search (rules, length_mapped);
-    } in
-    let told : ((c).args.place < 64) × User (view (c).args.p) (c).args.u = (decides_and _ _ (decides_ltb _ 64) (read_user (c).args.p _ c.sort_in-sender.ensures)).sound c.if-not-place-sender.false in
-    let over : Above (c).args.p (c).args.u c.climb-over.result = climbed _ c.climb-over.ensures in
-    grant_own_gain _ sized _ _ _ _ _ false told.0 told.1
+    let w = goal.at.returns-then-rule-operations_over-eq0 c in
+    let sizes = sized w.After-sort_in-sender in
+    let known = told w.Else-not-place-sender in
+    let over : Above c.args.p c.args.u c.climb-over.result = climbed _ c.climb-over.ensures in
+    grant_own_gain _ sizes _ _ _ _ _ false known.0 known.1
     (decides_none
-    (none_lacks_ruled _ told.1 over (climbed _ c.climb-above.ensures) c.operations_over.ensures (omega arith)
+    (none_lacks_ruled _ known.1 over (climbed _ c.climb-above.ensures) c.operations_over.ensures (omega arith)
     (omega arith)
     (search rules)
     c.if-rule-operations_over-eq0.true))
 
 pub returns-in-Permission : goal.returns-in-Permission
 returns-in-Permission c =
-    let sized : Sized c.args.p = record {
-      sorts = search rules;
-      memberships = search rules;
-      appointments = search (rules, length_mapped);
-      rules = search (rules, length_mapped);
-    } in
-    let told : (c.args.place < 64) × User (view c.args.p) c.args.u = (decides_and _ _ (decides_ltb _ 64) (read_user c.args.p _ c.sort_in-sender.ensures)).sound c.if-not-place-sender.false in
+    let w = goal.at.returns-in-Permission c in
+    let sizes = sized w.After-sort_in-sender in
+    let known = told w.Else-not-place-sender in
     let over : Above c.args.p c.args.u c.climb-over.result = climbed _ c.climb-over.ensures in
     let among = (decides_at c.has.ensures (decides_has over _)).sound c.if-not-has.false in
-    let finds = grant_found _ told.1 over
+    let finds = grant_found _ known.1 over
     (granted_users c.args.p.rules c.granted-had.ensures (omega arith))
     among
     c.just.ensures
     c.spread-got.ensures
     (Permission c.in-Permission.y c.in-Permission.k)
     c.in-Permission.ensures in
-    grant_own_gain _ sized _ _ _ _ _ true told.0 told.1 (decides_found (finds.sound refl))
+    grant_own_gain _ sizes _ _ _ _ _ true known.0 known.1 (decides_found (finds.sound refl))
 
 pub returns-in-Nothing : goal.returns-in-Nothing
 returns-in-Nothing c =
-    let sized : Sized c.args.p = record {
-      sorts = search rules;
-      memberships = search rules;
-      appointments = search (rules, length_mapped);
-      rules = search (rules, length_mapped);
-    } in
-    let told : (c.args.place < 64) × User (view c.args.p) c.args.u = (decides_and _ _ (decides_ltb _ 64) (read_user c.args.p _ c.sort_in-sender.ensures)).sound c.if-not-place-sender.false in
+    let w = goal.at.returns-in-Nothing c in
+    let sizes = sized w.After-sort_in-sender in
+    let known = told w.Else-not-place-sender in
     let over : Above c.args.p c.args.u c.climb-over.result = climbed _ c.climb-over.ensures in
     let among = (decides_at c.has.ensures (decides_has over _)).sound c.if-not-has.false in
-    let finds = grant_found _ told.1 over
+    let finds = grant_found _ known.1 over
     (granted_users c.args.p.rules c.granted-had.ensures (omega arith))
     among
     c.just.ensures
     c.spread-got.ensures
     Nothing
     c.in-Nothing.ensures in
-    grant_own_gain _ sized _ _ _ _ _ false told.0 told.1 (decides_none (refuted finds refl))
+    grant_own_gain _ sizes _ _ _ _ _ false known.0 known.1 (decides_none (refuted finds refl))

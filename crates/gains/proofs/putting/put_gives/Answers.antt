@@ -3,10 +3,12 @@
 use mathlib.Core.Path.{◌≡◌, refl}
 use mathlib.Core.Bool.{true, false}
 use mathlib.Core.Logic.{inl, inr, ⊎_elim}
-use Prim.Native.Nat.{◌-◌, ◌^◌}
+use Prim.Native.Nat.{ℕ, ◌-◌, ◌^◌}
 use native.Mathlib.Omega.{arith}
 use lib.Bits.{and_comm}
 use borrow.Author.Tests.{eq-eqb, ne_eqb}
+use Rattle.reach.specs.declared.Policy.{Policy}
+use Rattle.reach.specs.declared.Placing.{Placing}
 use Rattle.reach.specs.Tables.{Sized, view}
 use Rattle.reach.specs.Reach.{Group, Under}
 use Rattle.reach.proofs.Lists.{length_mapped}
@@ -27,57 +29,86 @@ use Rattle.gains.proofs.Lending.{held_none, held_had}
 use Rattle.gains.proofs.Looking.{decides_found, grows_lacks, lacks_grows}
 use Rattle.gains.proofs.Verdicts.{given_own, given_over}
 use Rattle.std.proofs.Common.{rules}
+use Rattle.gains.proofs.putting.put_gives.Goals.{After-sort_in, Else-sort_in-ne1, Joined-rules_open}
 use Rattle.gains.proofs.putting.put_gives.Goals.{then-rules_open+else-is_found, else-rules_open}
 use Rattle.gains.proofs.putting.put_gives.Goals as goal
+
+-- What is known of the PUT gives: the sender is heard, the rules are lent, and he gains exactly if he lacks something.
+module _ {p : Policy} {u x g : ℕ} {asked : Placing} where
+  heard : Placed p u x g asked → Heard p p.sorts p.memberships p.appointments u
+  heard e = record { lent = record { sorts = refl; memberships = refl }; appointments = refl; user = e.user }
+
+  gains : Sized p → Group (view p) g → Placed p u x g asked → LacksPut (view p) u x g → true ≡ own_gain p u (Put x g)
+  gains z group e l = put_own_gain _ z _ _ _ e.used group true e.user (decides_found l)
+
+  gains_not : Sized p → Group (view p) g → Placed p u x g asked → (LacksPut (view p) u x g → ⊥) → false ≡ own_gain p u (Put x g)
+  gains_not z group e n = put_own_gain _ z _ _ _ e.used group false e.user (decides_none n)
+
+ruled : (p : Policy) → Ruled p p.sorts p.memberships p.rules
+ruled p = record { lent = record { sorts = refl; memberships = refl }; rules = refl }
+
+-- The tables of the policy have their sizes, and past the first test g is a group.
+sized : (c : After-sort_in) → Sized c.args.p
+sized c = search (rules, length_mapped)
+
+group : (c : Else-sort_in-ne1) → Group (view c.args.p) c.args.g
+group c = (read_group c.args.p c.args.g c.sort_in.ensures).sound (eq-eqb _ _ c.if-sort_in-ne1.false)
+
+-- Past the four ways to gain there is none: he does not hold the group and not the object, no pair comes, and no permission is found.
+none : (c : Joined-rules_open) → let a = c.args in Placed a.p a.u a.x a.g a.asked → LacksPut (view a.p) a.u a.x a.g → ⊥
+none c e =
+    let a = c.args in
+    let grows = refuted c.posts_grow.ensures c.if-posts_grow.false in
+    let over : Above a.p a.u c.climb-over.result = climbed _ c.climb-over.ensures in
+    none_lacks_put
+    (λ l. grows (inl (lacks_grows _ e.asked.posts.owner e.asked.first e.asked.second l)))
+    (λ l. grows (inr (lacks_grows _ e.asked.posts.manager e.asked.first e.asked.second l)))
+    (refuted (c.pairs_come.ensures _ _ _ (heard e) e.asked.first e.asked.second) c.if-pairs_come.false)
+    (λ l.
+    elim c.if-rules_open.branch [
+      | then-rules_open+else-is_found w ↦
+          refuted
+          (decides_at w.is_found.ensures (w.put_permission.ensures _ _ _ (ruled a.p) e.user over e.asked.second))
+          w.if-is_found.false
+          l
+      | else-rules_open w ↦
+          refuted
+          c.rules_open.ensures
+          w.if-rules_open.false
+          (lacks_permit_opens _ e.user over e.asked.first e.asked.second
+          (has_of _ _ c.has-2.ensures (omega arith) (omega arith))
+          c.only_if-more.ensures
+          (omega (arith, and_comm a.asked.second (2 ^ 64 - 1 - a.asked.first)))
+          l)
+    ])
 
 -- Into what is no group it gives and hands over nothing.
 pub returns-then-sort_in-ne1 : goal.returns-then-sort_in-ne1
 returns-then-sort_in-ne1 c =
-    let sized : Sized c.args.p = record {
-      sorts = search rules;
-      memberships = search rules;
-      appointments = search (rules, length_mapped);
-      rules = search (rules, length_mapped);
-    } in
+    let z = sized (goal.at.returns-then-sort_in-ne1 c).After-sort_in in
     let n = refuted (read_group c.args.p c.args.g c.sort_in.ensures) (ne_eqb _ _ c.if-sort_in-ne1.true) in
-    λ _. given_over _ _ _
-    (put_gains_none _ sized _ _ _ (λ w. n w.1.1)) (put_hands_none _ sized _ _ _ (λ w. n w.1)) refl
+    λ _. given_over _ _ _ (put_gains_none _ z _ _ _ (λ w. n w.1.1)) (put_hands_none _ z _ _ _ (λ w. n w.1)) refl
 
 -- The object is under the group already.
 pub returns-then-has : goal.returns-then-has
 returns-then-has c =
-    let sized : Sized c.args.p = record {
-      sorts = search rules;
-      memberships = search rules;
-      appointments = search (rules, length_mapped);
-      rules = search (rules, length_mapped);
-    } in
-    let group : Group (view (c).args.p) (c).args.g = let a = (c).args in
-    (read_group a.p a.g c.sort_in.ensures).sound (eq-eqb _ _ c.if-sort_in-ne1.false) in
-    let a = (c).args in
+    let w = goal.at.returns-then-has c in
+    let z = sized w.After-sort_in in
+    let t = group w.Else-sort_in-ne1 in
+    let a = c.args in
     let here = has_of a.asked.first a.g c.has.ensures (omega arith) (omega arith) in
     λ e.
     let under : Under (view a.p) a.x a.g = (decides_at here (decides_has e.asked.first _)).sound c.if-has.true in
     given_over _ _ _
-    (put_own_gain _ sized _ _ _ e.used group false e.user (decides_none (put_again_gains under e.user)))
-    (put_hand_over _ sized _ _ _ e.used group false (decides_none (put_again_hands under)))
+    (gains_not z t e (put_again_gains under e.user))
+    (put_hand_over _ z _ _ _ e.used t false (decides_none (put_again_hands under)))
     refl
 
 pub returns-then-posts_grow : goal.returns-then-posts_grow
 returns-then-posts_grow c =
-    let sized : Sized c.args.p = record {
-      sorts = search rules;
-      memberships = search rules;
-      appointments = search (rules, length_mapped);
-      rules = search (rules, length_mapped);
-    } in
-    let group : Group (view (c).args.p) (c).args.g = let a = (c).args in
-    (read_group a.p a.g c.sort_in.ensures).sound (eq-eqb _ _ c.if-sort_in-ne1.false) in
-    let Known = let a = (c).args in Placed a.p a.u a.x a.g a.asked in
-    let gains : let a = (c).args in Known → LacksPut (view a.p) a.u a.x a.g
-    → true ≡ own_gain a.p a.u (Put a.x a.g) = λ e l. put_own_gain _ sized _ _ _ e.used group true e.user (decides_found l) in
+    let w = goal.at.returns-then-posts_grow c in
     λ e. given_own _ _ _
-    (gains e
+    (gains (sized w.After-sort_in) (group w.Else-sort_in-ne1) e
     (⊎_elim
     (λ w. held_owner (grows_lacks _ e.asked.posts.owner e.asked.first e.asked.second w))
     (λ w. held_manager (grows_lacks _ e.asked.posts.manager e.asked.first e.asked.second w))
@@ -85,128 +116,43 @@ returns-then-posts_grow c =
 
 pub returns-then-pairs_come : goal.returns-then-pairs_come
 returns-then-pairs_come c =
-    let sized : Sized c.args.p = record {
-      sorts = search rules;
-      memberships = search rules;
-      appointments = search (rules, length_mapped);
-      rules = search (rules, length_mapped);
-    } in
-    let group : Group (view (c).args.p) (c).args.g = let a = (c).args in
-    (read_group a.p a.g c.sort_in.ensures).sound (eq-eqb _ _ c.if-sort_in-ne1.false) in
-    let Known = let a = (c).args in Placed a.p a.u a.x a.g a.asked in
-    let gains : let a = (c).args in Known → LacksPut (view a.p) a.u a.x a.g
-    → true ≡ own_gain a.p a.u (Put a.x a.g) = λ e l. put_own_gain _ sized _ _ _ e.used group true e.user (decides_found l) in
-    let heard : Known → let a = (c).args in
-    Heard a.p a.p.sorts a.p.memberships a.p.appointments a.u = λ e. record { lent = record { sorts = refl; memberships = refl }; appointments = refl; user = e.user } in
-    λ e. given_own _ _ _ (gains e (pair ((c.pairs_come.ensures _ _ _ (heard e) e.asked.first e.asked.second).sound c.if-pairs_come.true)))
+    let w = goal.at.returns-then-pairs_come c in
+    λ e. given_own _ _ _
+    (gains (sized w.After-sort_in) (group w.Else-sort_in-ne1) e
+    (pair ((c.pairs_come.ensures _ _ _ (heard e) e.asked.first e.asked.second).sound c.if-pairs_come.true)))
 
 pub returns-then-is_found : goal.returns-then-is_found
 returns-then-is_found c =
-    let sized : Sized c.args.p = record {
-      sorts = search rules;
-      memberships = search rules;
-      appointments = search (rules, length_mapped);
-      rules = search (rules, length_mapped);
-    } in
-    let group : Group (view (c).args.p) (c).args.g = let a = (c).args in
-    (read_group a.p a.g c.sort_in.ensures).sound (eq-eqb _ _ c.if-sort_in-ne1.false) in
-    let Known = let a = (c).args in Placed a.p a.u a.x a.g a.asked in
-    let gains : let a = (c).args in Known → LacksPut (view a.p) a.u a.x a.g
-    → true ≡ own_gain a.p a.u (Put a.x a.g) = λ e l. put_own_gain _ sized _ _ _ e.used group true e.user (decides_found l) in
-    let over : let a = (c).args in Above a.p a.u c.climb-over.result = climbed _ c.climb-over.ensures in
-    let ruled : let a = (c).args in Ruled a.p a.p.sorts a.p.memberships a.p.rules = record { lent = record { sorts = refl; memberships = refl }; rules = refl } in
+    let w = goal.at.returns-then-is_found c in
+    let over : Above c.args.p c.args.u c.climb-over.result = climbed _ c.climb-over.ensures in
     λ e. given_own _ _ _
-    (gains e
+    (gains (sized w.After-sort_in) (group w.Else-sort_in-ne1) e
     (permit
-    ((decides_at c.is_found.ensures (c.put_permission.ensures _ _ _ ruled e.user over e.asked.second)
+    ((decides_at c.is_found.ensures (c.put_permission.ensures _ _ _ (ruled c.args.p) e.user over e.asked.second)
     ).sound
     c.if-is_found.true)))
 
 pub returns-then-posts-object-ne0 : goal.returns-then-posts-object-ne0
 returns-then-posts-object-ne0 c =
-    let sized : Sized c.args.p = record {
-      sorts = search rules;
-      memberships = search rules;
-      appointments = search (rules, length_mapped);
-      rules = search (rules, length_mapped);
-    } in
-    let group : Group (view (c).args.p) (c).args.g = let a = (c).args in
-    (read_group a.p a.g c.sort_in.ensures).sound (eq-eqb _ _ c.if-sort_in-ne1.false) in
-    let Known = let a = (c).args in Placed a.p a.u a.x a.g a.asked in
-    let gains-not : let a = (c).args in Known → (LacksPut (view a.p) a.u a.x a.g → ⊥)
-    → false ≡ own_gain a.p a.u (Put a.x a.g) = λ e n. put_own_gain _ sized _ _ _ e.used group false e.user (decides_none n) in
-    let heard : Known → let a = (c).args in
-    Heard a.p a.p.sorts a.p.memberships a.p.appointments a.u = λ e. record { lent = record { sorts = refl; memberships = refl }; appointments = refl; user = e.user } in
-    let over : let a = (c).args in Above a.p a.u c.climb-over.result = climbed _ c.climb-over.ensures in
-    let ruled : let a = (c).args in Ruled a.p a.p.sorts a.p.memberships a.p.rules = record { lent = record { sorts = refl; memberships = refl }; rules = refl } in
-    let none : let a = (c).args in Known → LacksPut (view a.p) a.u a.x a.g → ⊥ = λ e. let a = (c).args in
-    let grows = refuted c.posts_grow.ensures c.if-posts_grow.false in
-    none_lacks_put
-    (λ l. grows (inl (lacks_grows _ e.asked.posts.owner e.asked.first e.asked.second l)))
-    (λ l. grows (inr (lacks_grows _ e.asked.posts.manager e.asked.first e.asked.second l)))
-    (refuted (c.pairs_come.ensures _ _ _ (heard e) e.asked.first e.asked.second) c.if-pairs_come.false)
-    (λ l.
-    elim c.if-rules_open.branch [
-      | then-rules_open+else-is_found w ↦ refuted (decides_at w.is_found.ensures (w.put_permission.ensures _ _ _ ruled e.user over e.asked.second)) w.if-is_found.false l
-      | else-rules_open w ↦
-          refuted
-          c.rules_open.ensures
-          w.if-rules_open.false
-          (lacks_permit_opens _ e.user over e.asked.first e.asked.second
-          (has_of _ _ c.has-2.ensures (omega arith) (omega arith))
-          c.only_if-more.ensures
-          (omega (arith, and_comm a.asked.second (2 ^ 64 - 1 - a.asked.first)))
-          l)
-    ]) in
-    let a = (c).args in
-    let same = and_comm a.asked.posts.owner a.asked.first in
+    let w = goal.at.returns-then-posts-object-ne0 c in
+    let z = sized w.After-sort_in in
+    let t = group w.Else-sort_in-ne1 in
+    let same = and_comm c.args.asked.posts.owner c.args.asked.first in
     λ e. given_over _ _ _
-    (gains-not e (none e))
-    (put_hand_over _ sized _ _ _ e.used group false
-    (decides_none (λ l. l.not_own (held_had _ e.asked.posts.owner e.asked.first (λ z. c.if-posts-object-ne0.true (omega (arith, z, same)))))))
+    (gains_not z t e (none w.Joined-rules_open e))
+    (put_hand_over _ z _ _ _ e.used t false
+    (decides_none (λ l. l.not_own (held_had _ e.asked.posts.owner e.asked.first (λ n. c.if-posts-object-ne0.true (omega (arith, n, same)))))))
     refl
 
 pub returns : goal.returns
 returns c =
-    let sized : Sized c.args.p = record {
-      sorts = search rules;
-      memberships = search rules;
-      appointments = search (rules, length_mapped);
-      rules = search (rules, length_mapped);
-    } in
-    let group : Group (view (c).args.p) (c).args.g = let a = (c).args in
-    (read_group a.p a.g c.sort_in.ensures).sound (eq-eqb _ _ c.if-sort_in-ne1.false) in
-    let Known = let a = (c).args in Placed a.p a.u a.x a.g a.asked in
-    let gains-not : let a = (c).args in Known → (LacksPut (view a.p) a.u a.x a.g → ⊥)
-    → false ≡ own_gain a.p a.u (Put a.x a.g) = λ e n. put_own_gain _ sized _ _ _ e.used group false e.user (decides_none n) in
-    let heard : Known → let a = (c).args in
-    Heard a.p a.p.sorts a.p.memberships a.p.appointments a.u = λ e. record { lent = record { sorts = refl; memberships = refl }; appointments = refl; user = e.user } in
-    let over : let a = (c).args in Above a.p a.u c.climb-over.result = climbed _ c.climb-over.ensures in
-    let ruled : let a = (c).args in Ruled a.p a.p.sorts a.p.memberships a.p.rules = record { lent = record { sorts = refl; memberships = refl }; rules = refl } in
-    let none : let a = (c).args in Known → LacksPut (view a.p) a.u a.x a.g → ⊥ = λ e. let a = (c).args in
-    let grows = refuted c.posts_grow.ensures c.if-posts_grow.false in
-    none_lacks_put
-    (λ l. grows (inl (lacks_grows _ e.asked.posts.owner e.asked.first e.asked.second l)))
-    (λ l. grows (inr (lacks_grows _ e.asked.posts.manager e.asked.first e.asked.second l)))
-    (refuted (c.pairs_come.ensures _ _ _ (heard e) e.asked.first e.asked.second) c.if-pairs_come.false)
-    (λ l.
-    elim c.if-rules_open.branch [
-      | then-rules_open+else-is_found w ↦ refuted (decides_at w.is_found.ensures (w.put_permission.ensures _ _ _ ruled e.user over e.asked.second)) w.if-is_found.false l
-      | else-rules_open w ↦
-          refuted
-          c.rules_open.ensures
-          w.if-rules_open.false
-          (lacks_permit_opens _ e.user over e.asked.first e.asked.second
-          (has_of _ _ c.has-2.ensures (omega arith) (omega arith))
-          c.only_if-more.ensures
-          (omega (arith, and_comm a.asked.second (2 ^ 64 - 1 - a.asked.first)))
-          l)
-    ]) in
-    let a = (c).args in
-    let same = and_comm a.asked.posts.owner a.asked.first in
+    let w = goal.at.returns c in
+    let z = sized w.After-sort_in in
+    let t = group w.Else-sort_in-ne1 in
+    let same = and_comm c.args.asked.posts.owner c.args.asked.first in
     λ e. given_over _ _ _
-    (gains-not e (none e))
-    (put_hand_over _ sized _ _ _ e.used group _
+    (gains_not z t e (none w.Joined-rules_open e))
+    (put_hand_over _ z _ _ _ e.used t _
     (over_decides _
     (held_none _ e.asked.posts.owner e.asked.first (omega (arith, c.if-posts-object-ne0.false, same)))
     (c.hands_over.ensures _ _ _ refl refl e.asked.first e.asked.second)))

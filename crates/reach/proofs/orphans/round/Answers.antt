@@ -10,57 +10,62 @@ use Rattle.reach.proofs.Gathering.{left_less}
 use Rattle.reach.proofs.Owning.{look_through, meets, grown_group, grown_other, look_freed}
 use Rattle.reach.proofs.Owning.{round_start, round_none, round_freed, round_end}
 use Rattle.std.proofs.Common.{rules}
+use Rattle.reach.proofs.orphans.round.Goals.{In-loop-rest}
 use Rattle.reach.proofs.orphans.round.Goals as goal
+
+-- The lowest number of what is left.
+lowest : (c : In-loop-rest) → (count_trailing_zeros 64 c.loop-rest.rest < 64) × (bit c.loop-rest.rest (count_trailing_zeros 64 c.loop-rest.rest) ≡ 1)
+lowest c = lowest_bit 64 _ c.loop-rest-test.true c.loop-rest.invariant.0.rest_word
 
 pub loop-rest-init : goal.loop-rest-init
 loop-rest-init c = (round_start (search rules) (search rules), λ set k. k)
 
 pub overflow_cast-h : goal.overflow_cast-h
 overflow_cast-h c =
-    let low : (count_trailing_zeros 64 c.loop-rest.rest < 64) × (bit c.loop-rest.rest (count_trailing_zeros 64 c.loop-rest.rest) ≡ 1) = lowest_bit 64 _ c.loop-rest-test.true c.loop-rest.invariant.0.rest_word in
+    let low = lowest (goal.at.overflow_cast-h c).In-loop-rest in
     omega (arith, low.0)
 
 pub overflow_shl-one : goal.overflow_shl-one
 overflow_shl-one c =
-    let low : (count_trailing_zeros 64 c.loop-rest.rest < 64) × (bit c.loop-rest.rest (count_trailing_zeros 64 c.loop-rest.rest) ≡ 1) = lowest_bit 64 _ c.loop-rest-test.true c.loop-rest.invariant.0.rest_word in
+    let low = lowest (goal.at.overflow_shl-one c).In-loop-rest in
     low.0
 
 pub offset_bounds-memberships-h : goal.offset_bounds-memberships-h
 offset_bounds-memberships-h c =
-    let low : (count_trailing_zeros 64 c.loop-rest.rest < 64) × (bit c.loop-rest.rest (count_trailing_zeros 64 c.loop-rest.rest) ≡ 1) = lowest_bit 64 _ c.loop-rest-test.true c.loop-rest.invariant.0.rest_word in
+    let low = lowest (goal.at.offset_bounds-memberships-h c).In-loop-rest in
     omega (arith, low.0)
 
 pub bounds-memberships-h : goal.bounds-memberships-h
 bounds-memberships-h c =
-    let low : (count_trailing_zeros 64 c.loop-rest.rest < 64) × (bit c.loop-rest.rest (count_trailing_zeros 64 c.loop-rest.rest) ≡ 1) = lowest_bit 64 _ c.loop-rest-test.true c.loop-rest.invariant.0.rest_word in
+    let low = lowest (goal.at.bounds-memberships-h c).In-loop-rest in
     low.0
 
 pub loop-rest-smaller-then-memberships-h-eq0 : goal.loop-rest-smaller-then-memberships-h-eq0
 loop-rest-smaller-then-memberships-h-eq0 c =
-    let low : (count_trailing_zeros 64 c.loop-rest.rest < 64) × (bit c.loop-rest.rest (count_trailing_zeros 64 c.loop-rest.rest) ≡ 1) = lowest_bit 64 _ c.loop-rest-test.true c.loop-rest.invariant.0.rest_word in
+    let low = lowest (goal.at.loop-rest-smaller-then-memberships-h-eq0 c).In-loop-rest in
     let less : bit_and c.loop-rest.rest (2 ^ 64 - 1 - (1 * 2 ^ count_trailing_zeros 64 c.loop-rest.rest) % 2 ^ 64) < c.loop-rest.rest = left_less c.loop-rest.invariant.0.rest_word (count_trailing_zeros 64 c.loop-rest.rest) low.1 in
     less
 
 pub loop-rest-preserved-then-memberships-h-eq0 : goal.loop-rest-preserved-then-memberships-h-eq0
 loop-rest-preserved-then-memberships-h-eq0 c =
-    let low : (count_trailing_zeros 64 c.loop-rest.rest < 64) × (bit c.loop-rest.rest (count_trailing_zeros 64 c.loop-rest.rest) ≡ 1) = lowest_bit 64 _ c.loop-rest-test.true c.loop-rest.invariant.0.rest_word in
+    let low = lowest (goal.at.loop-rest-preserved-then-memberships-h-eq0 c).In-loop-rest in
     let l = c.loop-rest in
     (round_none l.invariant.0 (count_trailing_zeros 64 l.rest) low.1 c.if-memberships-h-eq0.true, l.invariant.1)
 
 pub bounds-sorts-h : goal.bounds-sorts-h
 bounds-sorts-h c =
-    let low : (count_trailing_zeros 64 c.loop-rest.rest < 64) × (bit c.loop-rest.rest (count_trailing_zeros 64 c.loop-rest.rest) ≡ 1) = lowest_bit 64 _ c.loop-rest-test.true c.loop-rest.invariant.0.rest_word in
+    let low = lowest (goal.at.bounds-sorts-h c).In-loop-rest in
     low.0
 
 pub loop-rest-smaller-then-sorts-h-eq1 : goal.loop-rest-smaller-then-sorts-h-eq1
 loop-rest-smaller-then-sorts-h-eq1 c =
-    let low : (count_trailing_zeros 64 c.loop-rest.rest < 64) × (bit c.loop-rest.rest (count_trailing_zeros 64 c.loop-rest.rest) ≡ 1) = lowest_bit 64 _ c.loop-rest-test.true c.loop-rest.invariant.0.rest_word in
+    let low = lowest (goal.at.loop-rest-smaller-then-sorts-h-eq1 c).In-loop-rest in
     let less : bit_and c.loop-rest.rest (2 ^ 64 - 1 - (1 * 2 ^ count_trailing_zeros 64 c.loop-rest.rest) % 2 ^ 64) < c.loop-rest.rest = left_less c.loop-rest.invariant.0.rest_word (count_trailing_zeros 64 c.loop-rest.rest) low.1 in
     less
 
 pub loop-rest-preserved-then-sorts-h-eq1 : goal.loop-rest-preserved-then-sorts-h-eq1
 loop-rest-preserved-then-sorts-h-eq1 c =
-    let low : (count_trailing_zeros 64 c.loop-rest.rest < 64) × (bit c.loop-rest.rest (count_trailing_zeros 64 c.loop-rest.rest) ≡ 1) = lowest_bit 64 _ c.loop-rest-test.true c.loop-rest.invariant.0.rest_word in
+    let low = lowest (goal.at.loop-rest-preserved-then-sorts-h-eq1 c).In-loop-rest in
     let l = c.loop-rest in
     let h = count_trailing_zeros 64 l.rest in
     let e = l.invariant.0.within h low.1 in (
@@ -72,13 +77,13 @@ loop-rest-preserved-then-sorts-h-eq1 c =
 
 pub loop-rest-smaller : goal.loop-rest-smaller
 loop-rest-smaller c =
-    let low : (count_trailing_zeros 64 c.loop-rest.rest < 64) × (bit c.loop-rest.rest (count_trailing_zeros 64 c.loop-rest.rest) ≡ 1) = lowest_bit 64 _ c.loop-rest-test.true c.loop-rest.invariant.0.rest_word in
+    let low = lowest (goal.at.loop-rest-smaller c).In-loop-rest in
     let less : bit_and c.loop-rest.rest (2 ^ 64 - 1 - (1 * 2 ^ count_trailing_zeros 64 c.loop-rest.rest) % 2 ^ 64) < c.loop-rest.rest = left_less c.loop-rest.invariant.0.rest_word (count_trailing_zeros 64 c.loop-rest.rest) low.1 in
     less
 
 pub loop-rest-preserved : goal.loop-rest-preserved
 loop-rest-preserved c =
-    let low : (count_trailing_zeros 64 c.loop-rest.rest < 64) × (bit c.loop-rest.rest (count_trailing_zeros 64 c.loop-rest.rest) ≡ 1) = lowest_bit 64 _ c.loop-rest-test.true c.loop-rest.invariant.0.rest_word in
+    let low = lowest (goal.at.loop-rest-preserved c).In-loop-rest in
     let l = c.loop-rest in
     let h = count_trailing_zeros 64 l.rest in
     let e = l.invariant.0.within h low.1 in (

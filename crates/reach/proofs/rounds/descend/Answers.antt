@@ -9,7 +9,12 @@ use Rattle.reach.proofs.Gathering.{left_less}
 use Rattle.reach.proofs.Settling.{sweep_start, sweep_round, sweep_step, sweep_over}
 use Rattle.reach.proofs.Settling.{settle_start, settle_round, settle_step, settle_over, settle_end}
 use Rattle.std.proofs.Common.{rules}
+use Rattle.reach.proofs.rounds.descend.Goals.{In-loop-left}
 use Rattle.reach.proofs.rounds.descend.Goals as goal
+
+-- The lowest number of what is left.
+lowest : (c : In-loop-left) → (count_trailing_zeros 64 c.loop-left.left < 64) × (bit c.loop-left.left (count_trailing_zeros 64 c.loop-left.left) ≡ 1)
+lowest c = lowest_bit 64 _ c.loop-left-test.true c.loop-left.invariant.0.left_word
 
 pub loop-found-init : goal.loop-found-init
 loop-found-init c = (sweep_start (search rules) c.args.set, λ p k. settle_start k)
@@ -31,32 +36,32 @@ loop-found-preserved c =
 
 pub overflow_cast-h : goal.overflow_cast-h
 overflow_cast-h c =
-    let low : (count_trailing_zeros 64 c.loop-left.left < 64) × (bit c.loop-left.left (count_trailing_zeros 64 c.loop-left.left) ≡ 1) = lowest_bit 64 _ c.loop-left-test.true c.loop-left.invariant.0.left_word in
+    let low = lowest (goal.at.overflow_cast-h c).In-loop-left in
     omega (arith, low.0)
 
 pub overflow_shl-one : goal.overflow_shl-one
 overflow_shl-one c =
-    let low : (count_trailing_zeros 64 c.loop-left.left < 64) × (bit c.loop-left.left (count_trailing_zeros 64 c.loop-left.left) ≡ 1) = lowest_bit 64 _ c.loop-left-test.true c.loop-left.invariant.0.left_word in
+    let low = lowest (goal.at.overflow_shl-one c).In-loop-left in
     low.0
 
 pub offset_bounds-memberships-h : goal.offset_bounds-memberships-h
 offset_bounds-memberships-h c =
-    let low : (count_trailing_zeros 64 c.loop-left.left < 64) × (bit c.loop-left.left (count_trailing_zeros 64 c.loop-left.left) ≡ 1) = lowest_bit 64 _ c.loop-left-test.true c.loop-left.invariant.0.left_word in
+    let low = lowest (goal.at.offset_bounds-memberships-h c).In-loop-left in
     omega (arith, low.0)
 
 pub bounds-memberships-h : goal.bounds-memberships-h
 bounds-memberships-h c =
-    let low : (count_trailing_zeros 64 c.loop-left.left < 64) × (bit c.loop-left.left (count_trailing_zeros 64 c.loop-left.left) ≡ 1) = lowest_bit 64 _ c.loop-left-test.true c.loop-left.invariant.0.left_word in
+    let low = lowest (goal.at.bounds-memberships-h c).In-loop-left in
     low.0
 
 pub loop-left-smaller : goal.loop-left-smaller
 loop-left-smaller c =
-    let low : (count_trailing_zeros 64 c.loop-left.left < 64) × (bit c.loop-left.left (count_trailing_zeros 64 c.loop-left.left) ≡ 1) = lowest_bit 64 _ c.loop-left-test.true c.loop-left.invariant.0.left_word in
+    let low = lowest (goal.at.loop-left-smaller c).In-loop-left in
     left_less c.loop-left.invariant.0.left_word (count_trailing_zeros 64 c.loop-left.left) low.1
 
 pub loop-left-preserved : goal.loop-left-preserved
 loop-left-preserved c =
-    let low : (count_trailing_zeros 64 c.loop-left.left < 64) × (bit c.loop-left.left (count_trailing_zeros 64 c.loop-left.left) ≡ 1) = lowest_bit 64 _ c.loop-left-test.true c.loop-left.invariant.0.left_word in
+    let low = lowest (goal.at.loop-left-preserved c).In-loop-left in
     let l = c.loop-left in
     let h = count_trailing_zeros 64 l.left in (
       sweep_step l.invariant.0 h low.1 c.only_if-found.ensures,
