@@ -13,12 +13,11 @@ use Rattle.reach.specs.Privileges.{permitting}
 use Rattle.reach.proofs.Testing.{decides_as}
 use Rattle.rules.specs.declared.Request.{Request}
 use Rattle.rules.specs.declared.Request.TheVariants.{Make, Put, Take, Appoint, Dismiss, Grant, Withdraw, Use}
-use Rattle.rules.specs.declared.Verdict.{Verdict}
 use Rattle.rules.specs.Records.{sender, request}
 use Rattle.rules.specs.Doing.{after}
 use Rattle.rules.specs.Refusals.{torn, unknown, misfit, stranger, off_the_sheet, absent, wrong_sort, already_so, no_authority, own_gain}
 use Rattle.rules.specs.Refusals.{hand_over, orphan}
-use Rattle.rules.specs.Judging.{code_of, done_by, done, verdict_on, verdict, accepted, judge, numbers_of, answers}
+use Rattle.rules.specs.Judging.{Verdict, code_of, done_by, done, verdict_on, verdict, accepted, judge, numbers_of, answers}
 
 -- Each check by its name.
 pub record Passed (p : Policy) (b : List ℕ) (u : ℕ) (q : Request) : Type 0 where
