@@ -61,6 +61,10 @@ done p u (Grant i v t o) = Ok None
 done p u (Withdraw i) = Ok None
 done p u (Use x k) = done_by (permitting p u k x)
 
+-- One check: refused where it applies, and else passed.
+abbrev pub checked : Bool → Refusal → Result (Unit {0}) Refusal
+checked applies r = applies ⇒ Err r ∥ Ok tt
+
 -- The table of refusals, in its order: the verdict on the record b, sent by u, that asks for q.
 unfoldable pub verdict_on : Policy → List ℕ → ℕ → Request → Verdict
 verdict_on p b u q =

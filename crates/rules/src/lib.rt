@@ -4,8 +4,7 @@
 #![tactic(auto)]
 
 ghost use Rattle.std.specs.Prelude.{◌≡◌};
-ghost use Rattle.reach.specs.Tests.{◌⇒◌∥◌};
-ghost use Rattle.rules.specs.Judging.{number_of};
+ghost use Rattle.rules.specs.Judging.{number_of, checked};
 
 use reach::Policy;
 
@@ -70,7 +69,7 @@ pub enum Refusal {
 impl Refusal {
     // The check of which this is the refusal: refused with it, where it applies, and else passed.
     pub fn if_so(self, applies: bool) -> Result<(), Refusal>
-        ensures { result ≡ (applies ⇒ Err self ∥ Ok tt) }
+        ensures { result ≡ checked applies self }
     {
         if applies { Err(self) } else { Ok(()) }
     }
