@@ -1,10 +1,9 @@
 -- A check by `if_so`, and the `?` after it: what it passes it does not apply to, and of what it refuses it says its refusal. By cases on the
 -- test.
-use mathlib.Core.Path.{◌≡◌, refl, sym, ap, ◌∙◌}
+use mathlib.Core.Path.{◌≡◌, refl, ap, ◌∙◌}
 use mathlib.Core.Bool.{Bool, true, false}
 use Rattle.std.specs.Prelude.{Result, Ok, Err, IsErrAnd}
 use Rattle.std.proofs.Common.{rules}
-use Rattle.reach.specs.Tests.{◌⇒◌∥◌}
 use Rattle.rules.specs.declared.Refusal.{Refusal}
 use Rattle.rules.specs.Judging.{checked}
 

@@ -73,7 +73,8 @@ module _ (p : Policy) (a : Answer) (o : OneAnswer p a) where
 pub zero_of_done : (code_of (Ok None) ≡ 0) × ((i : ℕ) → code_of (Ok (Option.Some i)) ≡ 0)
 zero_of_done = (refl, λ i. refl)
 
-numbered_above : (r : Refusal) → 0 < number_of r
+-- Every refusal has a number above 0.
+pub numbered_above : (r : Refusal) → 0 < number_of r
 numbered_above Torn = omega arith
 numbered_above Unknown = omega arith
 numbered_above Misfit = omega arith

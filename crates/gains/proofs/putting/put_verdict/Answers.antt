@@ -1,6 +1,6 @@
 -- Checks 8 and 9 are asked first; who passes them is a user, and the object is in use.
 use mathlib.Core.Path.{◌≡◌, sym, ◌∙◌}
-use mathlib.Core.Bool.{true, false, not, ◌&&◌}
+use mathlib.Core.Bool.{true, false, ◌&&◌}
 use native.Mathlib.Omega.{arith}
 use Rattle.std.proofs.Common.{rules}
 use Rattle.reach.specs.Reach.{direct}
