@@ -21,9 +21,8 @@ use Rattle.rules.proofs.Bounded.{code_bounded}
 use Rattle.rules.proofs.Fitting.{known_sender}
 use Rattle.rules.proofs.Passing.{passes_ltb}
 use Rattle.rules.specs.Authority.{may}
-use Rattle.rules.specs.declared.Verdict.{Verdict}
 use Rattle.rules.specs.declared.Request.TheVariants.{Use}
-use Rattle.rules.specs.Judging.{code_of, verdict, verdict_on, done_by, done}
+use Rattle.rules.specs.Judging.{Verdict, code_of, verdict, verdict_on, done_by, done}
 use Rattle.rules.specs.Refusals.{stranger, off_the_sheet, absent, wrong_sort, no_authority}
 use Rattle.rules.specs.Refusals.{torn, unknown, misfit, already_so, own_gain, hand_over, orphan}
 use Rattle.rules.specs.Records.{request, length_of}
