@@ -38,7 +38,7 @@ pub fn lacks_first<'a>(
     if over == 0 {
         return false;
     }
-    !covers_pair(appointments, u, object, over)
+    !covers_pair(&appointments, u, object, over)
 }
 
 // Whether u comes to administer a pair by one of his appointments: its A is opened, and its B is in use and not under the B of any that has
@@ -54,11 +54,11 @@ fn pairs_come<'a>(
     ensures { (p : Policy) (x g : ℕ) → Heard p sorts.now memberships.now appointments u →
         Above p x object → Above p g group → Decides result (LacksPair (view p) u x g) }
 {
-    let opened = sides_of(appointments, u, group & !object);
+    let opened = sides_of(&appointments, u, group & !object);
     if opened.first | opened.second == 0 {
         return false;
     }
-    let held = sides_of(appointments, u, object);
+    let held = sides_of(&appointments, u, object);
     if not_under(sorts, memberships, opened.second, held.second) != 0 {
         return true;
     }

@@ -2,10 +2,8 @@
 use mathlib.Core.Path.{◌≡◌, refl, sym, ap, ◌∙◌}
 use mathlib.Core.Bool.{Bool, false, not, true≢false}
 use Prim.Native.Nat.{ℕ}
-use Rattle.std.specs.Prelude.{None, Ok, Err}
+use Rattle.std.specs.Prelude.{Some, None, Ok, Err}
 use Rattle.reach.specs.declared.Policy.{Policy}
-use Rattle.reach.specs.declared.Place.{Place}
-use Rattle.reach.specs.declared.Place.TheVariants.{At, Nothing}
 use Rattle.reach.specs.Tests.{◌⇒◌∥◌}
 use Rattle.reach.specs.Tables.{Sized}
 use Rattle.reach.specs.Privileges.{permitted, permitting}
@@ -19,7 +17,6 @@ use Rattle.rules.specs.Judging.{checked, done_by, done}
 use Rattle.gains.proofs.Outright.{appoint_other}
 use Rattle.judge.specs.Kind.{is_use, is_put}
 use Rattle.judge.specs.Answering.{harmless_by}
-use Rattle.judge.specs.Using.{used_by}
 
 -- What is not of a kind is told so by the test of the kind.
 pub no_use : (q : Request) → ((x k : ℕ) → q ≡ Use x k → ⊥) → is_use q ≡ false
@@ -90,11 +87,10 @@ module _ (p : Policy) (u : ℕ) where
   done_by_none (Use x k) e = absurd (true≢false e)
 
   -- The rule that is found says of a USE whether its sender has the authority, and is the one that is cited.
-  pub used_is : (x k : ℕ) → used_by (permitting p u k x) ≡ (no_authority p u (Use x k) ⇒ Err NoAuthority ∥ done p u (Use x k))
+  pub used_by : (x k : ℕ) {i : ℕ} → Some i ≡ permitting p u k x → Ok (Some i) ≡ (no_authority p u (Use x k) ⇒ Err NoAuthority ∥ done p u (Use x k))
   unfolding no_authority may done
-  used_is x k = go (permitting p u k x) refl
-    where
-      go : (w : Place) → permitting p u k x ≡ w
-          → used_by w ≡ (not (permitted p u k x) ⇒ Err NoAuthority ∥ done_by (permitting p u k x))
-      go (At i) e = rw (permitted_at p u k x i e, e)
-      go Nothing e = rw (permitted_nothing p u k x e)
+  used_by x k {i} e = rw (permitted_at p u k x i (sym e), ← e)
+
+  pub used_by_none : (x k : ℕ) → None ≡ permitting p u k x → Err NoAuthority ≡ (no_authority p u (Use x k) ⇒ Err NoAuthority ∥ done p u (Use x k))
+  unfolding no_authority may done
+  used_by_none x k e = rw (permitted_nothing p u k x (sym e))

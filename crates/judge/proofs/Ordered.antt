@@ -7,8 +7,6 @@ use borrow.Author.Tests.{ne_eqb}
 use Rattle.std.specs.Prelude.{Option, Some, None, Result, Ok, Err}
 use Rattle.std.proofs.Common.{rules}
 use Rattle.reach.specs.declared.Policy.{Policy}
-use Rattle.reach.specs.declared.Place.{Place}
-use Rattle.reach.specs.declared.Place.TheVariants.{At, Nothing}
 use Rattle.reach.specs.Tests.{◌⇒◌∥◌}
 use Rattle.reach.specs.Privileges.{permitting}
 use Rattle.rules.specs.declared.Request.{Request}
@@ -76,11 +74,7 @@ done_is p u (Appoint i k h a b) = (None, refl)
 done_is p u (Dismiss i) = (None, refl)
 done_is p u (Grant i v t o) = (None, refl)
 done_is p u (Withdraw i) = (None, refl)
-done_is p u (Use x k) = go (permitting p u k x)
-  where
-    go : (w : Place) → (by : Option ℕ) × (done_by w ≡ Ok by)
-    go (At i) = (Some i, refl)
-    go Nothing = (None, refl)
+done_is p u (Use x k) = (permitting p u k x, refl)
 
 -- What has passed goes through the checks that are left: a PUT through none.
 left : (p : Policy) (u : ℕ) (q : Request) → is_put q ≡ false → last p u q (passed_by p u q) ≡ first (harms p u q) harmed (done p u q)

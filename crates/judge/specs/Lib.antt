@@ -2,6 +2,5 @@
 pub mod Naming
 pub mod Holding
 pub mod Kind
-pub mod Using
 pub mod Answering
 pub mod Telling

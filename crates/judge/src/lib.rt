@@ -40,17 +40,16 @@ pub struct Decision {
 }
 
 // Checks 1 to 7, of the record and of what it names.
-fn formed(sorts: &[u8; 64], named: Named, bytes: &[u8], u: u8, q: Request) -> Result<(), Refusal>
-    ensures { (p : Policy) → p.sorts ≡ sorts.now → named ≡ named_by p q →
-        result ≡ formed_by p bytes.now u q }
+fn formed(p: &Policy, bytes: &[u8], u: u8, q: Request) -> Result<(), Refusal>
+    ensures { result ≡ formed_by p.now bytes.now u q }
 {
     Refusal::Torn.if_so(torn(bytes))?;
     Refusal::Unknown.if_so(unknown(bytes))?;
     Refusal::Misfit.if_so(misfit(bytes))?;
-    Refusal::Stranger.if_so(stranger(sorts, u))?;
+    Refusal::Stranger.if_so(stranger(p, u))?;
     Refusal::OffTheSheet.if_so(off_the_sheet(q))?;
-    Refusal::Absent.if_so(absent(sorts, named, q))?;
-    Refusal::WrongSort.if_so(wrong_sort(sorts, q))
+    Refusal::Absent.if_so(absent(p, q))?;
+    Refusal::WrongSort.if_so(wrong_sort(p, q))
 }
 
 // Checks 8 and 9 of what is no USE and no PUT: what the sender holds over the two objects that the request is about is asked of the policy
@@ -105,8 +104,8 @@ fn harmless(p: Policy, u: u8, q: Request) -> Result<(), Refusal>
             };
             Refusal::OwnGain.if_so(grant_gains(p, u, place, rule))
         }
-        Request::Take { object, group } => Refusal::Orphan.if_so(take_orphans(p, object, group)),
-        Request::Dismiss { place } => Refusal::Orphan.if_so(dismiss_orphans(p, place)),
+        Request::Take { object, group } => Refusal::Orphan.if_so(take_orphans(&p, object, group)),
+        Request::Dismiss { place } => Refusal::Orphan.if_so(dismiss_orphans(&p, place)),
         _ => Ok(()),
     }
 }
@@ -115,9 +114,8 @@ fn harmless(p: Policy, u: u8, q: Request) -> Result<(), Refusal>
 fn verdict_on(p: Policy, bytes: &[u8], u: u8, q: Request) -> Verdict
     ensures { result ≡ verdict_on p bytes.now u q }
 {
-    let sorts = p.sorts;
     let named = named_in(p, q);
-    formed(&sorts, named, bytes, u, q)?;
+    formed(&p, bytes, u, q)?;
     let by = allowed(p, named, u, q)?;
     harmless(p, u, q)?;
     Ok(by)

@@ -1,8 +1,6 @@
 -- The judge. [01:no.13] "Tested in order; the first that applies is returned, cited 255, sheet unchanged."
 use Rattle.std.specs.Prelude.{◌≡◌, Bool, List, [], ◌∷◌, ℕ, ◌≤◌, eqb, Option, Some, None, Result, Ok, Err}
 use Rattle.reach.specs.declared.Policy.{Policy}
-use Rattle.reach.specs.declared.Place.{Place}
-use Rattle.reach.specs.declared.Place.TheVariants.{At, Nothing}
 use Rattle.reach.specs.Tests.{◌⇒◌∥◌}
 use Rattle.reach.specs.Privileges.{permitting}
 use Rattle.rules.specs.declared.Request.{Request}
@@ -47,9 +45,8 @@ cited_of (Ok None) = 255
 cited_of (Err r) = 255
 
 -- An accepted USE is done by the lowest place that permits it; a USE that has passed check 9 has one.
-abbrev pub done_by : Place → Verdict
-done_by (At i) = Ok (Some i)
-done_by Nothing = Ok None
+abbrev pub done_by : Option ℕ → Verdict
+done_by found = Ok found
 
 unfoldable pub done : Policy → ℕ → Request → Verdict
 done p u (Make i s g) = Ok None

@@ -3,4 +3,4 @@ use Rattle.judge.proofs.Leaving.{dismiss_leaves}
 use Rattle.judge.proofs.orphans.dismiss_orphans.Goals as goal
 
 pub returns : goal.returns
-returns c = rw (dismiss_leaves _ _, c.ownerless.ensures, c.dismissed_at.ensures)
+returns c = rw (dismiss_leaves _ _, c.ownerless.ensures, c.dismiss.ensures, c.objects.ensures.sorts, c.objects.ensures.memberships)
