@@ -2,12 +2,9 @@
 
 #![tactic(auto)]
 
-ghost use Rattle.std.specs.Prelude.{◌≡◌, false};
-ghost use Rattle.reach.specs.declared.Policy.{Policy};
+ghost use Rattle.std.specs.Prelude.{◌≡◌};
 ghost use Rattle.rules.specs.Judging.{verdict_on, judge, OneAnswer};
-ghost use Rattle.judge.specs.Naming.{named_by};
-ghost use Rattle.judge.specs.Kind.{is_use, is_put};
-ghost use Rattle.judge.specs.Answering.{decided, formed_by, entitled_by, allowed_by, harmless_by};
+ghost use Rattle.judge.specs.Answering.{decided, formed_by, allowed_by, harmless_by};
 
 mod authority;
 mod doing;
@@ -18,18 +15,17 @@ mod orphans;
 mod records;
 mod using;
 
-use authority::{already_so, first_of, no_authority, second_of};
+use authority::allowed;
 pub use doing::after;
 use form::{absent, misfit, off_the_sheet, stranger, torn, unknown, wrong_sort};
 use frame::byte;
 pub use gaining::{own_gain_of, permission_gained};
-use gains::{appoint_gains, grant_gains, put_verdict};
+use gains::{appoint_gains, grant_gains};
 pub use numbers::{cited_of, code_of};
 use orphans::{dismiss_orphans, take_orphans};
 use reach::{AccessRule, Appointment, Policy};
-use records::{Named, named_in, request_of};
+use records::request_of;
 use rules::{Answer, Refusal, Request, Verdict};
-use using::used;
 
 // What is decided on a record: who sends it, what it asks for, and the verdict.
 #[derive(Clone, Copy)]
@@ -50,28 +46,6 @@ fn formed(p: &Policy, bytes: &[u8], u: u8, q: Request) -> Result<(), Refusal>
     Refusal::OffTheSheet.if_so(off_the_sheet(q))?;
     Refusal::Absent.if_so(absent(p, q))?;
     Refusal::WrongSort.if_so(wrong_sort(p, q))
-}
-
-// Checks 8 and 9 of what is no USE and no PUT: what the sender holds over the two objects that the request is about is asked of the policy
-// once.
-fn entitled(p: Policy, named: Named, u: u8, q: Request) -> Result<(), Refusal>
-    ensures { named ≡ named_by p q → is_use q ≡ false → is_put q ≡ false → result ≡ entitled_by p u q }
-{
-    let held = p.held(u, first_of(named, q), second_of(named, q));
-    Refusal::AlreadySo.if_so(already_so(named, held, q))?;
-    Refusal::NoAuthority.if_so(no_authority(named, held, q))
-}
-
-// Checks 8 and 9, after those before: a USE that passes is done, by its rule, and of a PUT checks 10 and 11 are asked here too.
-fn allowed(p: Policy, named: Named, u: u8, q: Request) -> Verdict
-    ensures { named ≡ named_by p q → result ≡ allowed_by p u q }
-{
-    match q {
-        Request::Use { target, operation } => return used(p, u, target, operation),
-        Request::Put { object, group } => put_verdict(p, u, object, group)?,
-        _ => entitled(p, named, u, q)?,
-    }
-    Ok(None)
 }
 
 // Checks 10 to 12, after those before: what the request would give, and what it would leave without an owner. Of each kind those are asked
@@ -114,9 +88,8 @@ fn harmless(p: Policy, u: u8, q: Request) -> Result<(), Refusal>
 fn verdict_on(p: Policy, bytes: &[u8], u: u8, q: Request) -> Verdict
     ensures { result ≡ verdict_on p bytes.now u q }
 {
-    let named = named_in(p, q);
     formed(&p, bytes, u, q)?;
-    let by = allowed(p, named, u, q)?;
+    let by = allowed(p, u, q)?;
     harmless(p, u, q)?;
     Ok(by)
 }
