@@ -5,6 +5,5 @@ pub mod Sorting
 pub mod Leaving
 pub mod ByKind
 pub mod Ordered
-pub mod Staging
 pub mod Filling
 pub mod Telling

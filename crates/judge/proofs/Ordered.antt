@@ -18,7 +18,7 @@ use Rattle.rules.specs.Records.{sender, request}
 use Rattle.rules.specs.Doing.{after}
 use Rattle.rules.specs.Refusals.{torn, unknown, misfit, stranger, off_the_sheet, absent, wrong_sort, already_so, no_authority, own_gain}
 use Rattle.rules.specs.Refusals.{hand_over, orphan}
-use Rattle.rules.specs.Judging.{Verdict, code_of, cited_of, done_by, done, verdict_on, verdict, judge}
+use Rattle.rules.specs.Judging.{Verdict, code_of, cited_of, done, verdict_on, verdict, judge}
 use Rattle.judge.specs.declared.Decision.{Decision}
 use Rattle.judge.specs.Kind.{is_put}
 use Rattle.judge.specs.Answering.{passing, answer_by, decided, formed_by, passed_by, allowed_by, harmless_by, staged}

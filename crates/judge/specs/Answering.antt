@@ -33,10 +33,6 @@ formed_by p b u q =
     wrong_sort p q ⇒ Err WrongSort ∥
     Ok tt
 
--- Checks 8 and 9.
-abbrev pub entitled_by : Policy → ℕ → Request → Result (Unit {0}) Refusal
-entitled_by p u q = already_so p q ⇒ Err AlreadySo ∥ no_authority p u q ⇒ Err NoAuthority ∥ Ok tt
-
 -- What follows where checks 8 and 9 have passed: a PUT is asked checks 10 and 11, which go by the same climbs; and a USE is done by its rule.
 abbrev pub passed_by : Policy → ℕ → Request → Verdict
 passed_by p u q = is_put q ⇒ passing (given_by p u q) (λ _. Ok None) ∥ done p u q

@@ -1,5 +1,4 @@
 -- How the judge's code asks its checks and puts its answer together, and what it tells of a refusal for own gain.
-pub mod Holding
 pub mod Kind
 pub mod Answering
 pub mod Telling

@@ -1,9 +1,8 @@
 // Checks 8 and 9, by what stands at the place that a request names, and by what the sender holds over two objects: that is asked of the
 // policy at once.
-ghost use Rattle.std.specs.Prelude.{◌≡◌};
+ghost use Rattle.std.specs.Prelude.{◌≡◌, ◌||◌};
 ghost use Rattle.rules.specs.Authority.{may_appoint};
 ghost use Rattle.judge.specs.Answering.{allowed_by};
-ghost use Rattle.judge.specs.Holding.{governs};
 
 use crate::using::used;
 use gains::put_verdict;
@@ -15,7 +14,7 @@ const NONE: u8 = 255;
 
 // Owns or manages.
 fn governs(over: Over) -> bool
-    ensures { result ≡ governs over }
+    ensures { result ≡ (over.owned || over.managed) }
 {
     over.owned | over.managed
 }
@@ -34,20 +33,7 @@ fn may_appoint(p: Policy, u: u8, w: Appointment) -> bool
 }
 
 // Checks 8 and 9, after those before, kind by kind: a USE that passes is done, by its rule, and of a PUT checks 10 and 11 are asked here too.
-#[tactic(
-    auto,
-    unfolding(
-        rules::specs::Refusals::already_so,
-        rules::specs::Refusals::no_authority,
-        rules::specs::Authority::may,
-        rules::specs::Authority::may_withdraw,
-        reach::specs::Reach::in_use,
-        reach::specs::Tables::sort,
-        reach::specs::Tables::appointment,
-        reach::specs::Tables::rule,
-        rules::specs::Judging::done
-    )
-)]
+#[tactic(auto, unfolding(rules::specs::Refusals::already_so, rules::specs::Refusals::no_authority, rules::specs::Authority::may, rules::specs::Authority::may_withdraw, reach::specs::Reach::in_use, reach::specs::Tables::sort, reach::specs::Tables::appointment, reach::specs::Tables::rule, rules::specs::Judging::done))]
 pub fn allowed(p: Policy, u: u8, q: Request) -> Verdict
     ensures { result ≡ allowed_by p u q }
 {

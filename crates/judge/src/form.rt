@@ -98,10 +98,15 @@ pub fn absent(p: &Policy, q: Request) -> bool
         Request::Put { object, group } => !objects.in_use(object) | !objects.in_use(group),
         Request::Take { object, group } => !objects.in_use(object) | !objects.in_use(group),
         Request::Appoint {
-            kind, holder, a, b, ..
+            kind,
+            holder,
+            a,
+            b,
+            ..
         } => {
-            let pair = kind == Post::Administrator as u8;
-            !objects.in_use(holder) | !objects.in_use(a) | (pair & !objects.in_use(b))
+            !objects.in_use(holder)
+                | !objects.in_use(a)
+                | ((kind == Post::Administrator as u8) & !objects.in_use(b))
         }
         Request::Dismiss { place } => !appointment_at(&p.appointments, place).standing(),
         Request::Grant { users, targets, .. } => !objects.in_use(users) | !objects.in_use(targets),
@@ -121,10 +126,15 @@ pub fn wrong_sort(p: &Policy, q: Request) -> bool
         Request::Put { group, .. } => !objects.is_group(group),
         Request::Take { group, .. } => !objects.is_group(group),
         Request::Appoint {
-            kind, holder, a, b, ..
+            kind,
+            holder,
+            a,
+            b,
+            ..
         } => {
-            let pair = kind == Post::Administrator as u8;
-            !objects.is_group(a) | (pair & !objects.is_group(b)) | !objects.is_user(holder)
+            !objects.is_group(a)
+                | ((kind == Post::Administrator as u8) & !objects.is_group(b))
+                | !objects.is_user(holder)
         }
         Request::Dismiss { .. } => false,
         Request::Grant { users, targets, .. } => {

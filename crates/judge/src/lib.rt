@@ -50,6 +50,7 @@ fn formed(p: &Policy, bytes: &[u8], u: u8, q: Request) -> Result<(), Refusal>
 
 // Checks 10 to 12, after those before: what the request would give, and what it would leave without an owner. Of each kind those are asked
 // that it can fail, so that the policy is handed on to no others. Who appoints another gains nothing, and of a PUT nothing is left to ask.
+#[tactic(auto, unfolding(rules::specs::Refusals::own_gain, rules::specs::Refusals::hand_over, rules::specs::Refusals::orphan))]
 fn harmless(p: Policy, u: u8, q: Request) -> Result<(), Refusal>
     ensures { result ≡ harmless_by p u q }
 {
