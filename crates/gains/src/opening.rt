@@ -1,14 +1,14 @@
 // What the rules open by a PUT: whether some rule tells that a permission may come, and the search for one.
-ghost use Rattle.std.specs.Prelude.{◌≡◌, ℕ, get_or};
+ghost use Rattle.std.specs.Prelude.{◌≡◌, ℕ, get_or, is_some};
 ghost use Rattle.reach.specs.declared.Policy.{Policy};
 ghost use Rattle.reach.specs.Tests.{Some, Decides};
 ghost use Rattle.reach.specs.Tables.{no_rule, view};
 ghost use Rattle.reach.specs.Reach.{User};
 ghost use Rattle.gains.specs.Lacking.{LacksPermit, Above};
 ghost use Rattle.gains.specs.Lending.{Ruled};
-ghost use Rattle.gains.specs.Searching.{found, Opens};
+ghost use Rattle.gains.specs.Searching.{Opens};
 
-use crate::Gain;
+use crate::Permission;
 use crate::granting::granted;
 use crate::searching::first_fresh;
 use reach::{AccessRule, has};
@@ -46,9 +46,9 @@ pub fn put_permission<'a>(
     over: u64,
     x: u8,
     group: u64,
-) -> Gain
+) -> Option<Permission>
     ensures { (p : Policy) (u g : ℕ) → Ruled p sorts.now memberships.now rules → User (view p) u →
-        Above p u over → Above p g group → Decides (found result) (LacksPermit (view p) u x g) }
+        Above p u over → Above p g group → Decides (is_some result) (LacksPermit (view p) u x g) }
 {
     let had = granted(rules, over);
     if !has(over, x) {
@@ -59,14 +59,4 @@ pub fn put_permission<'a>(
     }
     let got = granted(rules, over | group);
     first_fresh(sorts, memberships, had, got, x, group)
-}
-
-// Whether a permission is found.
-pub fn is_found(gain: Gain) -> bool
-    ensures { result ≡ found gain }
-{
-    match gain {
-        Gain::Permission(y, k) => true,
-        Gain::Nothing => false,
-    }
 }

@@ -4,7 +4,6 @@ ghost use Rattle.rules.specs.declared.Request.TheVariants.{Grant};
 ghost use Rattle.rules.specs.Allowing.{appointing};
 ghost use Rattle.rules.specs.Refusals.{own_gain};
 
-use crate::Gain;
 use crate::granting::{granted, operations_over, spread};
 use crate::putting::lacks_first;
 use crate::searching::first_fresh;
@@ -62,8 +61,5 @@ pub fn grant_gains(p: Policy, u: u8, place: u8, rule: AccessRule) -> bool
     }
     let had = granted(rules, over);
     let got = spread(had, rule.operations as u64, just(rule.targets));
-    match first_fresh(&sorts, &memberships, had, got, 0, 0) {
-        Gain::Permission(y, k) => true,
-        Gain::Nothing => false,
-    }
+    first_fresh(&sorts, &memberships, had, got, 0, 0).is_some()
 }

@@ -14,7 +14,7 @@ ghost use Rattle.gains.specs.Lacking.{Grows, LacksPair, Above};
 ghost use Rattle.gains.specs.Lending.{Heard, Placed};
 
 use crate::handing::{handed, hands_over};
-use crate::opening::{is_found, put_permission, rules_open};
+use crate::opening::{put_permission, rules_open};
 use crate::searching::fresh;
 use reach::{
     Appointment, Placing, Policy, Posts, climb, covers_pair, has, not_under, only_if, sides_of,
@@ -110,7 +110,7 @@ fn put_gives(p: Policy, u: u8, x: u8, g: u8, asked: Placing) -> Verdict
     let over = climb(&sorts, &memberships, u);
     let more = only_if(has(over, x), group & !over);
     if rules_open(rules, over, more, group & !object) {
-        if is_found(put_permission(&sorts, &memberships, rules, over, x, group)) {
+        if put_permission(&sorts, &memberships, rules, over, x, group).is_some() {
             return Verdict::OwnGain;
         }
     }

@@ -4,7 +4,7 @@ ghost use Rattle.reach.specs.Words.{bit, SetOf, Meet};
 ghost use Rattle.reach.specs.Tests.{Some, Decides};
 ghost use Rattle.gains.specs.Searching.{New, FirstNew, Fresh, FirstFresh};
 
-use crate::Gain;
+use crate::Permission;
 use reach::{climb, has, sort_in};
 
 // The targets that are new under some operation.
@@ -22,25 +22,24 @@ fn new_targets(had: [u64; 8], got: [u64; 8]) -> u64
 
 // The first permission, target by target and operation by operation, that is among the ones and not among the others. Targets that are new
 // under no operation are passed over.
-pub fn gained(had: [u64; 8], got: [u64; 8]) -> Gain
+pub fn gained(had: [u64; 8], got: [u64; 8]) -> Option<Permission>
     ensures { FirstNew had got result }
 {
     let fresh = new_targets(had, got);
-    let mut found = Gain::Nothing;
-    let mut x: u8 = 0;
-    'search: while x < 64 {
-        if has(fresh, x) {
-            let mut k: u8 = 0;
-            while k < 8 {
+    let mut found = None;
+    'search: for target in 0..64 {
+        if has(fresh, target) {
+            for k in 0..8 {
                 let i = k as usize;
-                if has(got[i] & !had[i], x) {
-                    found = Gain::Permission(x, k);
+                if has(got[i] & !had[i], target) {
+                    found = Some(Permission {
+                        target,
+                        operation: k,
+                    });
                     break 'search;
                 }
-                k += 1;
             }
         }
-        x += 1;
     }
     found
 }
@@ -72,26 +71,22 @@ pub fn first_fresh<'a>(
     got: [u64; 8],
     x: u8,
     over: u64,
-) -> Gain
+) -> Option<Permission>
     ensures { FirstFresh (Fresh sorts.now memberships.now had got x over) result }
 {
-    let mut found = Gain::Nothing;
-    let mut y: u8 = 0;
-    'search: while y < 64 {
-        if sort_in(sorts, y) == 3 {
-            let before = climb(sorts, memberships, y);
+    let mut found = None;
+    'search: for target in 0..64 {
+        if sort_in(sorts, target) == 3 {
+            let before = climb(sorts, memberships, target);
             let after = with_put(before, x, over);
-            let mut operation: u8 = 0;
-            while operation < 8 {
-                let i = operation as usize;
-                if fresh(had[i], got[i], before, after) {
-                    found = Gain::Permission(y, operation);
+            for operation in 0..8 {
+                let k = operation as usize;
+                if fresh(had[k], got[k], before, after) {
+                    found = Some(Permission { target, operation });
                     break 'search;
                 }
-                operation += 1;
             }
         }
-        y += 1;
     }
     found
 }

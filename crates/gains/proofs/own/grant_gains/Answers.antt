@@ -1,7 +1,6 @@
 -- Unless he is a user and the place is on the table it gives nothing; nor unless he is among its users; nor if the rules that cover him have
 -- its operations over what its T is under; and else the search tells.
-use mathlib.Core.Path.{refl}
-use mathlib.Core.Bool.{true, false}
+use mathlib.Core.Bool.{false}
 use Prim.Native.Nat.{◌<◌}
 use native.Mathlib.Omega.{arith}
 use Rattle.reach.specs.Tables.{Sized, view}
@@ -11,11 +10,9 @@ use Rattle.reach.proofs.Testing.{decides_at, decides_and, decides_ltb, decides_n
 use Rattle.reach.proofs.WordSets.{decides_has}
 use Rattle.reach.proofs.Meeting.{read_user, climbed}
 use Rattle.gains.specs.Lacking.{Above}
-use Rattle.gains.specs.declared.Gain.TheVariants.{Permission, Nothing}
 use Rattle.gains.proofs.Outright.{grant_own_gain, grant_gains_none}
 use Rattle.gains.proofs.Searched.{granted_users, grant_found}
 use Rattle.gains.proofs.Covering.{none_lacks_ruled}
-use Rattle.gains.proofs.Looking.{decides_found}
 use Rattle.std.proofs.Common.{rules}
 use Rattle.gains.proofs.own.grant_gains.Goals.{After-sort_in-sender, Else-not-place-sender}
 use Rattle.gains.proofs.own.grant_gains.Goals as goal
@@ -56,34 +53,19 @@ returns-then-rule-operations_over-eq0 c =
     (search rules)
     c.if-rule-operations_over-eq0.true))
 
-pub returns-in-Permission : goal.returns-in-Permission
-returns-in-Permission c =
-    let w = goal.at.returns-in-Permission c in
+pub returns : goal.returns
+returns c =
+    let w = goal.at.returns c in
     let sizes = sized w.After-sort_in-sender in
     let known = told w.Else-not-place-sender in
     let over : Above c.args.p c.args.u c.climb-over.result = climbed _ c.climb-over.ensures in
     let among = (decides_at c.has.ensures (decides_has over _)).sound c.if-not-has.false in
-    let finds = grant_found _ known.1 over
+    grant_own_gain _ sizes _ _ _ _ _ _ known.0 known.1
+    (decides_at c.is_some.ensures
+    (grant_found _ known.1 over
     (granted_users c.args.p.rules c.granted-had.ensures (omega arith))
     among
     c.just.ensures
     c.spread-got.ensures
-    (Permission c.in-Permission.y c.in-Permission.k)
-    c.in-Permission.ensures in
-    grant_own_gain _ sizes _ _ _ _ _ true known.0 known.1 (decides_found (finds.sound refl))
-
-pub returns-in-Nothing : goal.returns-in-Nothing
-returns-in-Nothing c =
-    let w = goal.at.returns-in-Nothing c in
-    let sizes = sized w.After-sort_in-sender in
-    let known = told w.Else-not-place-sender in
-    let over : Above c.args.p c.args.u c.climb-over.result = climbed _ c.climb-over.ensures in
-    let among = (decides_at c.has.ensures (decides_has over _)).sound c.if-not-has.false in
-    let finds = grant_found _ known.1 over
-    (granted_users c.args.p.rules c.granted-had.ensures (omega arith))
-    among
-    c.just.ensures
-    c.spread-got.ensures
-    Nothing
-    c.in-Nothing.ensures in
-    grant_own_gain _ sizes _ _ _ _ _ false known.0 known.1 (decides_none (refuted finds refl))
+    c.first_fresh.result
+    c.first_fresh.ensures))

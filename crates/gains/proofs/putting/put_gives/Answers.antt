@@ -30,7 +30,7 @@ use Rattle.gains.proofs.Looking.{decides_found, grows_lacks, lacks_grows}
 use Rattle.gains.proofs.Verdicts.{given_own, given_over}
 use Rattle.std.proofs.Common.{rules}
 use Rattle.gains.proofs.putting.put_gives.Goals.{After-sort_in, Else-sort_in-ne1, Joined-rules_open}
-use Rattle.gains.proofs.putting.put_gives.Goals.{then-rules_open+else-is_found, else-rules_open}
+use Rattle.gains.proofs.putting.put_gives.Goals.{then-rules_open+else-is_some, else-rules_open}
 use Rattle.gains.proofs.putting.put_gives.Goals as goal
 
 -- What is known of the PUT gives: the sender is heard, the rules are lent, and he gains exactly if he lacks something.
@@ -66,10 +66,10 @@ none c e =
     (refuted (c.pairs_come.ensures _ _ _ (heard e) e.asked.first e.asked.second) c.if-pairs_come.false)
     (λ l.
     elim c.if-rules_open.branch [
-      | then-rules_open+else-is_found w ↦
+      | then-rules_open+else-is_some w ↦
           refuted
-          (decides_at w.is_found.ensures (w.put_permission.ensures _ _ _ (ruled a.p) e.user over e.asked.second))
-          w.if-is_found.false
+          (decides_at w.is_some.ensures (w.put_permission.ensures _ _ _ (ruled a.p) e.user over e.asked.second))
+          w.if-is_some.false
           l
       | else-rules_open w ↦
           refuted
@@ -121,16 +121,16 @@ returns-then-pairs_come c =
     (gains (sized w.After-sort_in) (group w.Else-sort_in-ne1) e
     (pair ((c.pairs_come.ensures _ _ _ (heard e) e.asked.first e.asked.second).sound c.if-pairs_come.true)))
 
-pub returns-then-is_found : goal.returns-then-is_found
-returns-then-is_found c =
-    let w = goal.at.returns-then-is_found c in
+pub returns-then-is_some : goal.returns-then-is_some
+returns-then-is_some c =
+    let w = goal.at.returns-then-is_some c in
     let over : Above c.args.p c.args.u c.climb-over.result = climbed _ c.climb-over.ensures in
     λ e. given_own _ _ _
     (gains (sized w.After-sort_in) (group w.Else-sort_in-ne1) e
     (permit
-    ((decides_at c.is_found.ensures (c.put_permission.ensures _ _ _ (ruled c.args.p) e.user over e.asked.second)
+    ((decides_at c.is_some.ensures (c.put_permission.ensures _ _ _ (ruled c.args.p) e.user over e.asked.second)
     ).sound
-    c.if-is_found.true)))
+    c.if-is_some.true)))
 
 pub returns-then-posts-object-ne0 : goal.returns-then-posts-object-ne0
 returns-then-posts-object-ne0 c =
