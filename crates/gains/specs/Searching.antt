@@ -12,6 +12,11 @@ pub record Joined (n : ℕ) (sets : List ℕ) (Q : ℕ → ℕ → Type 0) (r : 
   pub long : length r ≡ n
   pub row : (i : ℕ) → i < n → SetOf (get_or r i 0) (λ x. (bit (get_or sets i 0) x ≡ 1) ⊎ Q i x)
 
+-- The rule is in use, and its U is in the set.
+pub record Covers (r : AccessRule) (users : ℕ) : Type 0 where
+  pub used : r.used ≡ true
+  pub in_u : bit users r.users ≡ 1
+
 -- The rule is in use, has the operation k, and its U and its T are in the sets.
 pub record GrantsOver (r : AccessRule) (users targets k : ℕ) : Type 0 where
   pub used : r.used ≡ true

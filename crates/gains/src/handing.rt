@@ -11,7 +11,7 @@ use reach::{Appointment, has, just, only_if};
 use rules::Verdict;
 
 // Who holds something above the object, and who holds something above the group, as sets.
-#[derive(Clone, Copy)]
+#[derive(Clone, Copy, Default)]
 struct Who {
     object: u64,
     group: u64,
@@ -22,10 +22,7 @@ fn holder_of(w: Appointment, kind: u8, object: u64, group: u64) -> Who
     ensures { SetOf result.object (λ u. (u < 64) × HolderOf w kind object u) × SetOf result.group (λ u. (u < 64) × HolderOf w kind group u) }
 {
     if w.kind != kind {
-        return Who {
-            object: 0,
-            group: 0,
-        };
+        return Who::default();
     }
     let holder = just(w.holder);
     Who {
@@ -35,18 +32,16 @@ fn holder_of(w: Appointment, kind: u8, object: u64, group: u64) -> Who
 }
 
 // All who hold an appointment of that kind whose A is in the one set, and in the other: the table is gone through once for both.
-fn holders(appointments: [Appointment; 32], kind: u8, object: u64, group: u64) -> Who
-    ensures { SetOf result.object (λ u. Some 32 (λ i. (u < 64) × HolderOf (get_or appointments i no_appointment) kind object u)) ×
-        SetOf result.group (λ u. Some 32 (λ i. (u < 64) × HolderOf (get_or appointments i no_appointment) kind group u)) }
+fn holders(appointments: &[Appointment; 32], kind: u8, object: u64, group: u64) -> Who
+    ensures { SetOf result.object (λ u. Some 32 (λ i. (u < 64) × HolderOf (get_or appointments.now i no_appointment) kind object u)) ×
+        SetOf result.group (λ u. Some 32 (λ i. (u < 64) × HolderOf (get_or appointments.now i no_appointment) kind group u)) }
 {
-    let mut had: u64 = 0;
-    let mut got: u64 = 0;
-    let mut i: usize = 0;
-    while i < 32 {
-        let more = holder_of(appointments[i], kind, object, group);
+    let mut had = 0;
+    let mut got = 0;
+    for w in appointments {
+        let more = holder_of(*w, kind, object, group);
         had |= more.object;
         got |= more.group;
-        i += 1;
     }
     Who {
         object: had,
@@ -72,11 +67,11 @@ fn some_user(sorts: &[u8; 64], set: u64) -> bool
 // Whether some user holds the group and not the object, as an owner or as a manager.
 pub fn hands_over(
     sorts: &[u8; 64],
-    appointments: [Appointment; 32],
+    appointments: &[Appointment; 32],
     object: u64,
     group: u64,
 ) -> bool
-    ensures { (p : Policy) (x g : ℕ) → p.sorts ≡ sorts.now → p.appointments ≡ appointments →
+    ensures { (p : Policy) (x g : ℕ) → p.sorts ≡ sorts.now → p.appointments ≡ appointments.now →
         Above p x object → Above p g group → Decides result (SomeLacks (view p) x g) }
 {
     let owners = holders(appointments, 1, object, group);

@@ -9,7 +9,7 @@ ghost use Rattle.gains.specs.Lending.{Ruled};
 ghost use Rattle.gains.specs.Searching.{Opens};
 
 use crate::Permission;
-use crate::granting::granted;
+use crate::granting::{covers, granted};
 use crate::searching::first_fresh;
 use reach::{AccessRule, has};
 
@@ -17,37 +17,29 @@ use reach::{AccessRule, has};
 fn rule_opens(rule: AccessRule, users: u64, more: u64, opened: u64) -> bool
     ensures { Decides result (Opens rule users more opened) }
 {
-    if !rule.used {
-        return false;
-    }
-    has(more, rule.users) | (has(users, rule.users) & has(opened, rule.targets))
+    covers(rule, more) || covers(rule, users) && has(opened, rule.targets)
 }
 
 // Whether some rule does. Where none does no permission comes, and there is no need to search.
-pub fn rules_open(rules: [AccessRule; 64], users: u64, more: u64, opened: u64) -> bool
-    ensures { Decides result (Some 64 (λ i. Opens (get_or rules i no_rule) users more opened)) }
+pub fn rules_open(rules: &[AccessRule; 64], users: u64, more: u64, opened: u64) -> bool
+    ensures { Decides result (Some 64 (λ i. Opens (get_or rules.now i no_rule) users more opened)) }
 {
-    let mut i: usize = 0;
-    while i < 64 {
-        if rule_opens(rules[i], users, more, opened) {
-            return true;
-        }
-        i += 1;
-    }
-    false
+    rules
+        .iter()
+        .any(|rule| rule_opens(*rule, users, more, opened))
 }
 
 // The permission that the search finds: one that u, who is under `over`, has once x is in g, and lacks before. Unless he is under x himself,
 // and not under all that g is under, the rules that cover him stay the same.
-pub fn put_permission<'a>(
-    sorts: &'a [u8; 64],
-    memberships: &'a [u64; 64],
-    rules: [AccessRule; 64],
+pub fn put_permission(
+    sorts: &[u8; 64],
+    memberships: &[u64; 64],
+    rules: &[AccessRule; 64],
     over: u64,
     x: u8,
     group: u64,
 ) -> Option<Permission>
-    ensures { (p : Policy) (u g : ℕ) → Ruled p sorts.now memberships.now rules → User (view p) u →
+    ensures { (p : Policy) (u g : ℕ) → Ruled p sorts.now memberships.now rules.now → User (view p) u →
         Above p u over → Above p g group → Decides (is_some result) (LacksPermit (view p) u x g) }
 {
     let had = granted(rules, over);

@@ -17,16 +17,13 @@ pub fn appoint_gains(p: Policy, u: u8, place: u8, w: Appointment) -> bool
     if !((w.holder == u) & (place < 32)) {
         return false;
     }
-    let sorts = p.sorts;
-    let memberships = p.memberships;
-    let appointments = p.appointments;
-    let sender = sort_in(&sorts, u);
-    let over = sort_in(&sorts, w.a);
+    let sender = sort_in(&p.sorts, u);
+    let over = sort_in(&p.sorts, w.a);
     if !((sender == 2) & (over != 0)) {
         return false;
     }
-    let above = climb(&sorts, &memberships, w.a);
-    let posts = posts_of(appointments, u);
+    let above = climb(&p.sorts, &p.memberships, w.a);
+    let posts = posts_of(p.appointments, u);
     if w.kind == 1 {
         return posts.owner & above == 0;
     }
@@ -34,7 +31,7 @@ pub fn appoint_gains(p: Policy, u: u8, place: u8, w: Appointment) -> bool
         return posts.manager & above == 0;
     }
     if w.kind == 3 {
-        return lacks_first(&sorts, &memberships, appointments, u, w.b, above);
+        return lacks_first(&p.sorts, &p.memberships, p.appointments, u, w.b, above);
     }
     false
 }
@@ -44,22 +41,19 @@ pub fn appoint_gains(p: Policy, u: u8, place: u8, w: Appointment) -> bool
 pub fn grant_gains(p: Policy, u: u8, place: u8, rule: AccessRule) -> bool
     ensures { result ≡ own_gain p u (Grant place rule.users rule.targets rule.operations) }
 {
-    let sorts = p.sorts;
-    let memberships = p.memberships;
-    let rules = p.rules;
-    let sender = sort_in(&sorts, u);
+    let sender = sort_in(&p.sorts, u);
     if !((place < 64) & (sender == 2)) {
         return false;
     }
-    let over = climb(&sorts, &memberships, u);
+    let over = climb(&p.sorts, &p.memberships, u);
     if !has(over, rule.users) {
         return false;
     }
-    let above = climb(&sorts, &memberships, rule.targets);
-    if (rule.operations as u64) & !operations_over(rules, over, above) == 0 {
+    let above = climb(&p.sorts, &p.memberships, rule.targets);
+    if (rule.operations as u64) & !operations_over(&p.rules, over, above) == 0 {
         return false;
     }
-    let had = granted(rules, over);
+    let had = granted(&p.rules, over);
     let got = spread(had, rule.operations as u64, just(rule.targets));
-    first_fresh(&sorts, &memberships, had, got, 0, 0).is_some()
+    first_fresh(&p.sorts, &p.memberships, had, got, 0, 0).is_some()
 }

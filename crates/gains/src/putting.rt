@@ -23,9 +23,9 @@ use reach::{
 use rules::Verdict;
 
 // Whether b is in use, and u does not administer the pair of x and b, where `object` is all that x is under.
-pub fn lacks_first<'a>(
-    sorts: &'a [u8; 64],
-    memberships: &'a [u64; 64],
+pub fn lacks_first(
+    sorts: &[u8; 64],
+    memberships: &[u64; 64],
     appointments: [Appointment; 32],
     u: u8,
     b: u8,
@@ -43,9 +43,9 @@ pub fn lacks_first<'a>(
 
 // Whether u comes to administer a pair by one of his appointments: its A is opened, and its B is in use and not under the B of any that has
 // its A above the object; or the same with the sides exchanged.
-fn pairs_come<'a>(
-    sorts: &'a [u8; 64],
-    memberships: &'a [u64; 64],
+fn pairs_come(
+    sorts: &[u8; 64],
+    memberships: &[u64; 64],
     appointments: [Appointment; 32],
     u: u8,
     object: u64,
@@ -88,14 +88,10 @@ fn meets(posts: Posts, set: u64) -> bool
 fn put_gives(p: Policy, u: u8, x: u8, g: u8, asked: Placing) -> Verdict
     ensures { Placed p u x g asked → result ≡ given_by p u (Put x g) }
 {
-    let sorts = p.sorts;
-    let memberships = p.memberships;
-    let appointments = p.appointments;
-    let rules = p.rules;
     let posts = asked.posts;
     let object = asked.first;
     let group = asked.second;
-    if sort_in(&sorts, g) != 1 {
+    if sort_in(&p.sorts, g) != 1 {
         return Verdict::Done;
     }
     if has(object, g) {
@@ -104,20 +100,20 @@ fn put_gives(p: Policy, u: u8, x: u8, g: u8, asked: Placing) -> Verdict
     if posts_grow(posts, object, group) {
         return Verdict::OwnGain;
     }
-    if pairs_come(&sorts, &memberships, appointments, u, object, group) {
+    if pairs_come(&p.sorts, &p.memberships, p.appointments, u, object, group) {
         return Verdict::OwnGain;
     }
-    let over = climb(&sorts, &memberships, u);
+    let over = climb(&p.sorts, &p.memberships, u);
     let more = only_if(has(over, x), group & !over);
-    if rules_open(rules, over, more, group & !object) {
-        if put_permission(&sorts, &memberships, rules, over, x, group).is_some() {
+    if rules_open(&p.rules, over, more, group & !object) {
+        if put_permission(&p.sorts, &p.memberships, &p.rules, over, x, group).is_some() {
             return Verdict::OwnGain;
         }
     }
     if posts.owner & object != 0 {
         return Verdict::Done;
     }
-    handed(hands_over(&sorts, appointments, object, group))
+    handed(hands_over(&p.sorts, &p.appointments, object, group))
 }
 
 // Checks 8 to 11 of a PUT, in their order. They are asked together, since all of them but the first go by what its object and its group are

@@ -11,11 +11,9 @@ use reach::{climb, has, sort_in};
 fn new_targets(had: [u64; 8], got: [u64; 8]) -> u64
     ensures { SetOf result (λ x. Some 8 (λ k. New (get_or had k 0) (get_or got k 0) x)) }
 {
-    let mut set: u64 = 0;
-    let mut i: usize = 0;
-    while i < 8 {
-        set |= got[i] & !had[i];
-        i += 1;
+    let mut set = 0;
+    for k in 0..8 {
+        set |= got[k] & !had[k];
     }
     set
 }
@@ -64,9 +62,9 @@ pub fn fresh(had: u64, got: u64, before: u64, after: u64) -> bool
 
 // The first target and operation such that the groups granted for it meet what the target is under once x is put where `over` is above, and
 // those granted before met nothing that it is under before.
-pub fn first_fresh<'a>(
-    sorts: &'a [u8; 64],
-    memberships: &'a [u64; 64],
+pub fn first_fresh(
+    sorts: &[u8; 64],
+    memberships: &[u64; 64],
     had: [u64; 8],
     got: [u64; 8],
     x: u8,

@@ -5,8 +5,9 @@ use Prim.Native.Nat.{ℕ, ◌<◌}
 use Rattle.reach.specs.declared.Appointment.{Appointment}
 use Rattle.reach.specs.Words.{bit, has, SetOf}
 use Rattle.reach.proofs.Testing.{decides_at}
-use Rattle.reach.proofs.WordSets.{set_as, set_none, has_decides}
+use Rattle.reach.proofs.WordSets.{set_as, set_at, set_none, has_decides}
 use Rattle.gains.specs.Lacking.{HolderOf}
+use Rattle.std.proofs.Common.{rules}
 use Rattle.gains.proofs.handing.holder_of.Goals as goal
 
 -- The set of one, if its A is in the other set.
@@ -21,7 +22,10 @@ holder-if w kind over k e o s =
     (λ u h. (d.complete h.1.in_a, o.all u (h.0, h.1.is_holder)))
 
 pub returns-then-w-kind : goal.returns-then-w-kind
-returns-then-w-kind c = (set_none (λ u h. c.if-w-kind.true h.1.is_kind), set_none (λ u h. c.if-w-kind.true h.1.is_kind))
+returns-then-w-kind c = (
+  set_at (search rules) (set_none (λ u h. c.if-w-kind.true h.1.is_kind)),
+  set_at (search rules) (set_none (λ u h. c.if-w-kind.true h.1.is_kind)),
+)
 
 pub returns : goal.returns
 returns c =

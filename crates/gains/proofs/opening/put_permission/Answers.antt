@@ -17,7 +17,7 @@ returns-then-over-group c = λ p u g k user o s.
     let here = (decides_at c.has.ensures (decides_has o _)).sound c.if-not-has.false in
     let a = c.args in
     put_found_lent p k user o c.granted-had.ensures s (over_too p o s here)
-    (granted_users a.rules c.granted-had.ensures (omega (arith, c.if-over-group.true)))
+    (granted_users a.rules.now c.granted-had.ensures (omega (arith, c.if-over-group.true)))
     c.first_fresh-then-over-group.result
     c.first_fresh-then-over-group.ensures
 
@@ -26,6 +26,6 @@ returns c = λ p u g k user o s.
     let here = (decides_at c.has.ensures (decides_has o _)).sound c.if-not-has.false in
     let a = c.args in
     put_found_lent p k user o c.granted-had.ensures s (over_too p o s here)
-    (granted_users a.rules c.granted-got.ensures (omega (arith, or_comm a.over a.group)))
+    (granted_users a.rules.now c.granted-got.ensures (omega (arith, or_comm a.over a.group)))
     c.first_fresh-2.result
     c.first_fresh-2.ensures
