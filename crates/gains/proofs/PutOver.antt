@@ -28,6 +28,10 @@ use Rattle.gains.proofs.Lending.{appointment_lent}
 abbrev pub HoldersIn : List Appointment → ℕ → ℕ → ℕ → Type 0
 HoldersIn l kind over s = SetOf s (λ u. Some 32 (λ i. (u < 64) × HolderOf (get_or l i no_appointment) kind over u))
 
+pub holders_at : (l : List Appointment) (kind over : ℕ) {k o s : ℕ} → HoldersIn l k o s → k ≡ kind → o ≡ over → HoldersIn l kind over s
+holders_at l kind over {k} {s = s} h e f =
+    subst (λ (n : ℕ). HoldersIn l n over s) e (subst (λ (n : ℕ). HoldersIn l k n s) f h)
+
 module _ (p : Policy) {l : List Appointment} (read : p.appointments ≡ l) (kind : ℕ) where
   module _ {y over s : ℕ} (o : Above p y over) (h : HoldersIn l kind over s) {u : ℕ} (user : User (view p) u) where
     holder_holds : bit s u ≡ 1 → Holds (view p) kind u y

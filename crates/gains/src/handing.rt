@@ -10,43 +10,22 @@ ghost use Rattle.gains.specs.Lacking.{HolderOf, SomeLacks, Above};
 use reach::{Appointment, has, just, only_if};
 use rules::Verdict;
 
-// Who holds something above the object, and who holds something above the group, as sets.
-#[derive(Clone, Copy, Default)]
-struct Who {
-    object: u64,
-    group: u64,
+// The holder of this appointment, if it is of that kind and its A is in the set.
+fn holder_of(w: Appointment, kind: u8, over: u64) -> u64
+    ensures { SetOf result (λ u. (u < 64) × HolderOf w kind over u) }
+{
+    only_if((w.kind == kind) & has(over, w.a), just(w.holder))
 }
 
-// The holder of this appointment, if it is of that kind: for the object if its A is in the one set, and for the group if it is in the other.
-fn holder_of(w: Appointment, kind: u8, object: u64, group: u64) -> Who
-    ensures { SetOf result.object (λ u. (u < 64) × HolderOf w kind object u) × SetOf result.group (λ u. (u < 64) × HolderOf w kind group u) }
+// All who hold an appointment of that kind whose A is in the set.
+fn holders(appointments: &[Appointment; 32], kind: u8, over: u64) -> u64
+    ensures { SetOf result (λ u. Some 32 (λ i. (u < 64) × HolderOf (get_or appointments.now i no_appointment) kind over u)) }
 {
-    if w.kind != kind {
-        return Who::default();
-    }
-    let holder = just(w.holder);
-    Who {
-        object: only_if(has(object, w.a), holder),
-        group: only_if(has(group, w.a), holder),
-    }
-}
-
-// All who hold an appointment of that kind whose A is in the one set, and in the other: the table is gone through once for both.
-fn holders(appointments: &[Appointment; 32], kind: u8, object: u64, group: u64) -> Who
-    ensures { SetOf result.object (λ u. Some 32 (λ i. (u < 64) × HolderOf (get_or appointments.now i no_appointment) kind object u)) ×
-        SetOf result.group (λ u. Some 32 (λ i. (u < 64) × HolderOf (get_or appointments.now i no_appointment) kind group u)) }
-{
-    let mut had = 0;
-    let mut got = 0;
+    let mut set = 0;
     for w in appointments {
-        let more = holder_of(*w, kind, object, group);
-        had |= more.object;
-        got |= more.group;
+        set |= holder_of(*w, kind, over);
     }
-    Who {
-        object: had,
-        group: got,
-    }
+    set
 }
 
 // Whether some one of these is a user.
@@ -74,12 +53,9 @@ pub fn hands_over(
     ensures { (p : Policy) (x g : ℕ) → p.sorts ≡ sorts.now → p.appointments ≡ appointments.now →
         Above p x object → Above p g group → Decides result (SomeLacks (view p) x g) }
 {
-    let owners = holders(appointments, 1, object, group);
-    let managers = holders(appointments, 2, object, group);
-    some_user(
-        sorts,
-        (owners.group & !owners.object) | (managers.group & !managers.object),
-    )
+    let owners = holders(appointments, 1, group) & !holders(appointments, 1, object);
+    let managers = holders(appointments, 2, group) & !holders(appointments, 2, object);
+    some_user(sorts, owners | managers)
 }
 
 // The verdict where there is no own gain: hand-over, if there is one, and else done.
