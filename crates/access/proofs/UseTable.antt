@@ -7,8 +7,7 @@ use Prim.Native.Nat.{ℕ, ◌<◌, ◌≤◌}
 use native.Mathlib.Omega.{arith}
 use lib.Dec.{eqb, ltb}
 use Rattle.reach.specs.declared.Policy.{Policy}
-use Rattle.reach.specs.declared.Place.{Place}
-use Rattle.reach.specs.declared.Place.TheVariants.{At, Nothing}
+use Rattle.std.specs.Prelude.{Option, Some, None}
 use Rattle.reach.specs.Tests.{◌⇒◌∥◌, Decides}
 use Rattle.reach.specs.Tables.{sort, view}
 use Rattle.reach.specs.Reach.{in_use}
@@ -30,9 +29,9 @@ use Rattle.rules.specs.Records.{request, length_of}
 use Rattle.access.specs.Using.{use_record, use_code}
 
 -- What is done by a rule has the number 0.
-done_zero : (w : Place) → code_of (done_by w) ≡ 0
-done_zero (At i) = refl
-done_zero Nothing = refl
+done_zero : (w : Option ℕ) → code_of (done_by w) ≡ 0
+done_zero (Some i) = refl
+done_zero None = refl
 
 -- The number behind a row.
 code_row : (t : Bool) (a b : Verdict) {m n : ℕ} → code_of a ≡ m → code_of b ≡ n → code_of (t ⇒ a ∥ b) ≡ (t ⇒ m ∥ n)

@@ -1,13 +1,12 @@
 // Check 11: what PUT would hand over.
 ghost use Rattle.std.specs.Prelude.{◌≡◌, ℕ, ◌<◌, get_or};
-ghost use Rattle.reach.specs.declared.Policy.{Policy};
 ghost use Rattle.reach.specs.Words.{bit, SetOf};
 ghost use Rattle.reach.specs.Tests.{Some, Decides, ◌⇒◌∥◌};
-ghost use Rattle.reach.specs.Tables.{no_appointment, view};
+ghost use Rattle.reach.specs.Tables.{sort_in, no_appointment, view};
 ghost use Rattle.rules.specs.declared.Verdict.TheVariants.{Done, HandOver};
 ghost use Rattle.gains.specs.Lacking.{HolderOf, SomeLacks, Above};
 
-use reach::{Appointment, has, just, only_if};
+use reach::{Appointment, Objects, Policy, Post, has, just, only_if};
 use rules::Verdict;
 
 // The holder of this appointment, if it is of that kind and its A is in the set.
@@ -29,13 +28,13 @@ fn holders(appointments: &[Appointment; 32], kind: u8, over: u64) -> u64
 }
 
 // Whether some one of these is a user.
-fn some_user(sorts: &[u8; 64], set: u64) -> bool
-    ensures { Decides result (Some 64 (λ h. (bit set h ≡ 1) × (get_or sorts.now h 0 ≡ 2))) }
+fn some_user(objects: Objects, set: u64) -> bool
+    ensures { Decides result (Some 64 (λ h. (bit set h ≡ 1) × (sort_in objects.entry.sorts.now h ≡ 2))) }
 {
     let mut left = set;
     while left != 0 {
-        let h = u64::trailing_zeros(left) as usize;
-        if sorts[h] == 2 {
+        let h = u64::trailing_zeros(left) as u8;
+        if objects.is_user(h) {
             return true;
         }
         left &= !(1u64 << h);
@@ -44,18 +43,15 @@ fn some_user(sorts: &[u8; 64], set: u64) -> bool
 }
 
 // Whether some user holds the group and not the object, as an owner or as a manager.
-pub fn hands_over(
-    sorts: &[u8; 64],
-    appointments: &[Appointment; 32],
-    object: u64,
-    group: u64,
-) -> bool
-    ensures { (p : Policy) (x g : ℕ) → p.sorts ≡ sorts.now → p.appointments ≡ appointments.now →
-        Above p x object → Above p g group → Decides result (SomeLacks (view p) x g) }
+pub fn hands_over(p: &Policy, object: u64, group: u64) -> bool
+    ensures { (x g : ℕ) → Above p.now x object → Above p.now g group → Decides result (SomeLacks (view p.now) x g) }
 {
-    let owners = holders(appointments, 1, group) & !holders(appointments, 1, object);
-    let managers = holders(appointments, 2, group) & !holders(appointments, 2, object);
-    some_user(sorts, owners | managers)
+    let appointments = &p.appointments;
+    let owner = Post::Owner as u8;
+    let manager = Post::Manager as u8;
+    let owners = holders(appointments, owner, group) & !holders(appointments, owner, object);
+    let managers = holders(appointments, manager, group) & !holders(appointments, manager, object);
+    some_user(p.objects(), owners | managers)
 }
 
 // The verdict where there is no own gain: hand-over, if there is one, and else done.

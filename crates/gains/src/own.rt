@@ -7,7 +7,7 @@ ghost use Rattle.rules.specs.Refusals.{own_gain};
 use crate::granting::{granted, operations_over, spread};
 use crate::putting::lacks_first;
 use crate::searching::first_fresh;
-use reach::{AccessRule, Appointment, Policy, climb, has, just, posts_of, sort_in};
+use reach::{AccessRule, Appointment, Policy, Post, has, just, posts_of};
 
 // APPOINT gives its sender something exactly if he appoints himself to what he lacks: nothing that he is appointed over in that way is above
 // its A, or no one appointment of his covers its pair.
@@ -17,23 +17,18 @@ pub fn appoint_gains(p: Policy, u: u8, place: u8, w: Appointment) -> bool
     if !((w.holder == u) & (place < 32)) {
         return false;
     }
-    let sender = sort_in(&p.sorts, u);
-    let over = sort_in(&p.sorts, w.a);
-    if !((sender == 2) & (over != 0)) {
+    let objects = p.objects();
+    if !(objects.is_user(u) & objects.in_use(w.a)) {
         return false;
     }
-    let above = climb(&p.sorts, &p.memberships, w.a);
-    let posts = posts_of(p.appointments, u);
-    if w.kind == 1 {
-        return posts.owner & above == 0;
+    let above = objects.above(w.a);
+    let posts = posts_of(&p.appointments, u);
+    match Post::of(w.kind) {
+        Some(Post::Owner) => posts.owner & above == 0,
+        Some(Post::Manager) => posts.manager & above == 0,
+        Some(Post::Administrator) => lacks_first(&p, u, w.b, above),
+        None => false,
     }
-    if w.kind == 2 {
-        return posts.manager & above == 0;
-    }
-    if w.kind == 3 {
-        return lacks_first(&p.sorts, &p.memberships, p.appointments, u, w.b, above);
-    }
-    false
 }
 
 // GRANT can give permissions alone: its sender gains exactly if he is among its users and the search finds one. There is nothing to find if
@@ -41,19 +36,19 @@ pub fn appoint_gains(p: Policy, u: u8, place: u8, w: Appointment) -> bool
 pub fn grant_gains(p: Policy, u: u8, place: u8, rule: AccessRule) -> bool
     ensures { result ≡ own_gain p u (Grant place rule.users rule.targets rule.operations) }
 {
-    let sender = sort_in(&p.sorts, u);
-    if !((place < 64) & (sender == 2)) {
+    let objects = p.objects();
+    if !((place < 64) & objects.is_user(u)) {
         return false;
     }
-    let over = climb(&p.sorts, &p.memberships, u);
+    let over = objects.above(u);
     if !has(over, rule.users) {
         return false;
     }
-    let above = climb(&p.sorts, &p.memberships, rule.targets);
+    let above = objects.above(rule.targets);
     if (rule.operations as u64) & !operations_over(&p.rules, over, above) == 0 {
         return false;
     }
     let had = granted(&p.rules, over);
     let got = spread(had, rule.operations as u64, just(rule.targets));
-    first_fresh(&p.sorts, &p.memberships, had, got, 0, 0).is_some()
+    first_fresh(&p, had, got, 0, 0).is_some()
 }

@@ -4,75 +4,53 @@ ghost use Rattle.reach.specs.declared.Policy.{Policy};
 ghost use Rattle.reach.specs.Words.{Meet};
 ghost use Rattle.reach.specs.Tests.{Decides, ◌⇒◌∥◌};
 ghost use Rattle.reach.specs.Tables.{view};
-ghost use Rattle.reach.specs.Reach.{InUse};
+ghost use Rattle.reach.specs.Reach.{InUse, User};
 ghost use Rattle.reach.specs.Privileges.{Administers};
 ghost use Rattle.rules.specs.declared.Request.TheVariants.{Put};
 ghost use Rattle.rules.specs.declared.Verdict.TheVariants.{AlreadySo, NoAuthority};
 ghost use Rattle.rules.specs.Refusals.{already_so, no_authority};
 ghost use Rattle.gains.specs.Giving.{given_by};
 ghost use Rattle.gains.specs.Lacking.{Grows, LacksPair, Above};
-ghost use Rattle.gains.specs.Lending.{Heard, Placed};
+ghost use Rattle.gains.specs.Lending.{Placed};
 
 use crate::handing::{handed, hands_over};
 use crate::opening::{put_permission, rules_open};
 use crate::searching::fresh;
-use reach::{
-    Appointment, Placing, Policy, Posts, climb, covers_pair, has, not_under, only_if, sides_of,
-    sort_in,
-};
+use reach::{Placing, Policy, Posts, covers_pair, has, only_if, sides_of};
 use rules::Verdict;
 
 // Whether b is in use, and u does not administer the pair of x and b, where `object` is all that x is under.
-pub fn lacks_first(
-    sorts: &[u8; 64],
-    memberships: &[u64; 64],
-    appointments: [Appointment; 32],
-    u: u8,
-    b: u8,
-    object: u64,
-) -> bool
-    ensures { (p : Policy) (x : ℕ) → Heard p sorts.now memberships.now appointments u → Above p x object →
-        Decides result (InUse (view p) b × (Administers (view p) u x b → ⊥)) }
+pub fn lacks_first(p: &Policy, u: u8, b: u8, object: u64) -> bool
+    ensures { (x : ℕ) → User (view p.now) u → Above p.now x object →
+        Decides result (InUse (view p.now) b × (Administers (view p.now) u x b → ⊥)) }
 {
-    let over = climb(sorts, memberships, b);
-    if over == 0 {
-        return false;
-    }
-    !covers_pair(appointments, u, object, over)
+    let over = p.objects().above(b);
+    over != 0 && !covers_pair(&p.appointments, u, object, over)
 }
 
 // Whether u comes to administer a pair by one of his appointments: its A is opened, and its B is in use and not under the B of any that has
 // its A above the object; or the same with the sides exchanged.
-fn pairs_come(
-    sorts: &[u8; 64],
-    memberships: &[u64; 64],
-    appointments: [Appointment; 32],
-    u: u8,
-    object: u64,
-    group: u64,
-) -> bool
-    ensures { (p : Policy) (x g : ℕ) → Heard p sorts.now memberships.now appointments u →
-        Above p x object → Above p g group → Decides result (LacksPair (view p) u x g) }
+fn pairs_come(p: &Policy, u: u8, asked: Placing) -> bool
+    ensures { (x g : ℕ) → Placed p.now u x g asked → Decides result (LacksPair (view p.now) u x g) }
 {
-    let opened = sides_of(appointments, u, group & !object);
+    let Placing { first: object, second: group, .. } = asked;
+    let opened = sides_of(&p.appointments, u, group & !object);
     if opened.first | opened.second == 0 {
         return false;
     }
-    let held = sides_of(appointments, u, object);
-    if not_under(sorts, memberships, opened.second, held.second) != 0 {
-        return true;
-    }
-    not_under(sorts, memberships, opened.first, held.first) != 0
+    let held = sides_of(&p.appointments, u, object);
+    let objects = p.objects();
+    objects.not_under(opened.second, held.second) != 0
+        || objects.not_under(opened.first, held.first) != 0
 }
 
 // Whether what he is appointed over, as an owner or as a manager, has something above the group and nothing above the object.
-fn posts_grow(posts: Posts, object: u64, group: u64) -> bool
-    ensures { Decides result (Grows posts.owner object group ⊎ Grows posts.manager object group) }
+fn posts_grow(asked: Placing) -> bool
+    ensures { Decides result (Grows asked.posts.owner asked.first asked.second ⊎ Grows asked.posts.manager asked.first asked.second) }
 {
-    if fresh(posts.owner, posts.owner, object, group) {
-        return true;
-    }
-    fresh(posts.manager, posts.manager, object, group)
+    let Placing { posts, first: object, second: group, .. } = asked;
+    fresh(posts.owner, posts.owner, object, group)
+        || fresh(posts.manager, posts.manager, object, group)
 }
 
 // Whether what he is appointed over, as an owner or as a manager, has something in the set.
@@ -85,35 +63,34 @@ fn meets(posts: Posts, set: u64) -> bool
 // Checks 10 and 11 of a PUT by a user of an object in use. Into what is no group, and where the object is under the group already, it gives
 // nothing. Else its sender gains exactly if he holds the group and not the object in one of the two ways, or a pair comes, or a permission is
 // found; and it hands over exactly if he does not own the object, and some user holds the group and not the object.
-fn put_gives(p: Policy, u: u8, x: u8, g: u8, asked: Placing) -> Verdict
-    ensures { Placed p u x g asked → result ≡ given_by p u (Put x g) }
+fn put_gives(p: &Policy, u: u8, x: u8, g: u8, asked: Placing) -> Verdict
+    ensures { Placed p.now u x g asked → result ≡ given_by p.now u (Put x g) }
 {
-    let posts = asked.posts;
-    let object = asked.first;
-    let group = asked.second;
-    if sort_in(&p.sorts, g) != 1 {
+    let Placing { posts, first: object, second: group, .. } = asked;
+    let objects = p.objects();
+    if !objects.is_group(g) {
         return Verdict::Done;
     }
     if has(object, g) {
         return Verdict::Done;
     }
-    if posts_grow(posts, object, group) {
+    if posts_grow(asked) {
         return Verdict::OwnGain;
     }
-    if pairs_come(&p.sorts, &p.memberships, p.appointments, u, object, group) {
+    if pairs_come(p, u, asked) {
         return Verdict::OwnGain;
     }
-    let over = climb(&p.sorts, &p.memberships, u);
+    let over = objects.above(u);
     let more = only_if(has(over, x), group & !over);
     if rules_open(&p.rules, over, more, group & !object) {
-        if put_permission(&p.sorts, &p.memberships, &p.rules, over, x, group).is_some() {
+        if put_permission(p, over, x, group).is_some() {
             return Verdict::OwnGain;
         }
     }
     if posts.owner & object != 0 {
         return Verdict::Done;
     }
-    handed(hands_over(&p.sorts, &p.appointments, object, group))
+    handed(hands_over(p, object, group))
 }
 
 // Checks 8 to 11 of a PUT, in their order. They are asked together, since all of them but the first go by what its object and its group are
@@ -125,11 +102,9 @@ pub fn put_verdict(p: Policy, u: u8, x: u8, g: u8) -> Verdict
     if asked.direct {
         return Verdict::AlreadySo;
     }
-    let posts = asked.posts;
-    let object = asked.first;
-    let group = asked.second;
+    let Placing { posts, first: object, second: group, .. } = asked;
     if !(meets(posts, object) & meets(posts, group)) {
         return Verdict::NoAuthority;
     }
-    put_gives(p, u, x, g, asked)
+    put_gives(&p, u, x, g, asked)
 }

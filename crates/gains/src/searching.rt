@@ -5,7 +5,7 @@ ghost use Rattle.reach.specs.Tests.{Some, Decides};
 ghost use Rattle.gains.specs.Searching.{New, FirstNew, Fresh, FirstFresh};
 
 use crate::Permission;
-use reach::{climb, has, sort_in};
+use reach::{Policy, has};
 
 // The targets that are new under some operation.
 fn new_targets(had: [u64; 8], got: [u64; 8]) -> u64
@@ -63,19 +63,19 @@ pub fn fresh(had: u64, got: u64, before: u64, after: u64) -> bool
 // The first target and operation such that the groups granted for it meet what the target is under once x is put where `over` is above, and
 // those granted before met nothing that it is under before.
 pub fn first_fresh(
-    sorts: &[u8; 64],
-    memberships: &[u64; 64],
+    p: &Policy,
     had: [u64; 8],
     got: [u64; 8],
     x: u8,
     over: u64,
 ) -> Option<Permission>
-    ensures { FirstFresh (Fresh sorts.now memberships.now had got x over) result }
+    ensures { FirstFresh (Fresh p.now.sorts p.now.memberships had got x over) result }
 {
+    let objects = p.objects();
     let mut found = None;
     'search: for target in 0..64 {
-        if sort_in(sorts, target) == 3 {
-            let before = climb(sorts, memberships, target);
+        if objects.is_target(target) {
+            let before = objects.above(target);
             let after = with_put(before, x, over);
             for operation in 0..8 {
                 let k = operation as usize;

@@ -3,8 +3,7 @@ use mathlib.Core.Path.{◌≡◌, refl, sym, ap, ◌∙◌}
 use mathlib.Core.Bool.{Bool, true, false, not, true≢false, false≢true}
 use Prim.Native.Nat.{ℕ}
 use Rattle.reach.specs.declared.Policy.{Policy}
-use Rattle.reach.specs.declared.Place.{Place}
-use Rattle.reach.specs.declared.Place.TheVariants.{At, Nothing}
+use Rattle.std.specs.Prelude.{Option, Some, None}
 use Rattle.reach.specs.Tests.{◌⇒◌∥◌}
 use borrow.Author.Tests.{eqb-false}
 use Rattle.reach.specs.Tables.{Sized}
@@ -136,7 +135,7 @@ module _ (p : Policy) (u : ℕ) where
   unfolding no_authority may done
   used_is x k = go (permitting p u k x) refl
     where
-      go : (w : Place) → permitting p u k x ≡ w
+      go : (w : Option ℕ) → permitting p u k x ≡ w
           → used_by w ≡ (not (permitted p u k x) ⇒ NoAuthority ∥ done_by (permitting p u k x))
-      go (At i) e = rw (permitted_at p u k x i e, e)
-      go Nothing e = rw (permitted_nothing p u k x e)
+      go (Some i) e = rw (permitted_at p u k x i e, e)
+      go None e = rw (permitted_nothing p u k x e)

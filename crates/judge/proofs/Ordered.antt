@@ -7,8 +7,7 @@ use native.Mathlib.Decide.{ℕ_discrete}
 use native.Mathlib.Omega.{arith}
 use borrow.Author.Tests.{ne_eqb}
 use Rattle.reach.specs.declared.Policy.{Policy}
-use Rattle.reach.specs.declared.Place.{Place}
-use Rattle.reach.specs.declared.Place.TheVariants.{At, Nothing}
+use Rattle.std.specs.Prelude.{Option, Some, None}
 use Rattle.reach.specs.Tests.{◌⇒◌∥◌}
 use Rattle.reach.specs.Privileges.{permitting}
 use Rattle.rules.specs.declared.Request.{Request}
@@ -116,9 +115,9 @@ passed_then p u (Grant i v t o) = refl
 passed_then p u (Withdraw i) = refl
 passed_then p u (Use x k) = go (permitting p u k x)
   where
-    go : (w : Place) → (changes (done_by w) ⇒ Done ∥ done_by w) ≡ done_by w
-    go (At i) = refl
-    go Nothing = refl
+    go : (w : Option ℕ) → (changes (done_by w) ⇒ Done ∥ done_by w) ≡ done_by w
+    go (Some i) = refl
+    go None = refl
 
 module _ (p : Policy) (b : List ℕ) (u : ℕ) (q : Request) where
   -- The table, by its stages.

@@ -112,7 +112,7 @@ fn appointment_named(p: Policy, i: u8) -> Named
     ensures { result ≡ of_appointment (get_or p.appointments i no_appointment) }
 {
     let appointments = p.appointments;
-    let appointment = appointment_at(appointments, i);
+    let appointment = appointment_at(&appointments, i);
     let filled = appointment.standing();
     let rule = AccessRule {
         used: false,
@@ -132,7 +132,7 @@ fn rule_named(p: Policy, i: u8) -> Named
     ensures { result ≡ of_rule (get_or p.rules i no_rule) }
 {
     let rules = p.rules;
-    let rule = rule_at(rules, i);
+    let rule = rule_at(&rules, i);
     let filled = rule.used;
     let appointment = Appointment {
         kind: 0,

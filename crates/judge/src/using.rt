@@ -7,16 +7,16 @@ ghost use Rattle.rules.specs.Judging.{done};
 ghost use Rattle.judge.specs.Kind.{is_use};
 ghost use Rattle.judge.specs.Using.{used_by};
 
-use reach::{Place, Policy};
+use reach::Policy;
 use rules::{Request, Verdict};
 
 // The verdict by the rule that was found: done by it, or no authority where there is none.
-fn used_by(by: Place) -> Verdict
+fn used_by(by: Option<u8>) -> Verdict
     ensures { result ≡ used_by by }
 {
     match by {
-        Place::At(i) => Verdict::DoneBy(i),
-        Place::Nothing => Verdict::NoAuthority,
+        Some(i) => Verdict::DoneBy(i),
+        None => Verdict::NoAuthority,
     }
 }
 

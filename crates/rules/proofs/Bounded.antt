@@ -6,8 +6,7 @@ use Prim.Native.Nat.{ℕ, ◌≤◌}
 use native.Mathlib.Decide.{ℕ_discrete}
 use native.Mathlib.Omega.{arith}
 use Rattle.reach.specs.declared.Policy.{Policy}
-use Rattle.reach.specs.declared.Place.{Place}
-use Rattle.reach.specs.declared.Place.TheVariants.{At, Nothing}
+use Rattle.std.specs.Prelude.{Option, Some, None}
 use Rattle.reach.specs.Privileges.{permitting}
 use Rattle.reach.proofs.Deciding.{permitted_lowest, permitted_at}
 use Rattle.rules.specs.declared.Request.{Request}
@@ -67,11 +66,11 @@ done_cited_bounded p u (Grant i v t o) = omega arith
 done_cited_bounded p u (Withdraw i) = omega arith
 done_cited_bounded p u (Use x k) = go (permitting p u k x) refl
   where
-    go : (found : Place) → permitting p u k x ≡ found → cited_of (done_by found) ≤ 255
-    go Nothing e = omega arith
-    go (At i) e =
+    go : (found : Option ℕ) → permitting p u k x ≡ found → cited_of (done_by found) ≤ 255
+    go None e = omega arith
+    go (Some i) e =
         let w = permitted_lowest p u k x (permitted_at p u k x i e) in
-        subst (λ (found : Place). cited_of (done_by found) ≤ 255) (sym w.at.0 ∙ e) (omega (arith, w.low))
+        subst (λ (found : Option ℕ). cited_of (done_by found) ≤ 255) (sym w.at.0 ∙ e) (omega (arith, w.low))
 
 -- So every answer cites a byte.
 pub cited_bounded : (p : Policy) (b : List ℕ) → cited_of (judge p b).verdict ≤ 255

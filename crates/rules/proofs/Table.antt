@@ -6,8 +6,7 @@ use mathlib.Core.List.{List, [], ◌∷◌}
 use Prim.Native.Nat.{ℕ}
 use lib.Dec.{eqb}
 use Rattle.reach.specs.declared.Policy.{Policy}
-use Rattle.reach.specs.declared.Place.{Place}
-use Rattle.reach.specs.declared.Place.TheVariants.{At, Nothing}
+use Rattle.std.specs.Prelude.{Option, Some, None}
 use Rattle.reach.specs.Tests.{◌⇒◌∥◌, Decides}
 use Rattle.reach.specs.Privileges.{permitting}
 use Rattle.reach.proofs.Testing.{decides_as}
@@ -53,9 +52,9 @@ done_accepted p u (Grant i v t o) = refl
 done_accepted p u (Withdraw i) = refl
 done_accepted p u (Use x k) = go (permitting p u k x)
   where
-    go : (w : Place) → eqb (code_of (done_by w)) 0 ≡ true
-    go (At i) = refl
-    go Nothing = refl
+    go : (w : Option ℕ) → eqb (code_of (done_by w)) 0 ≡ true
+    go (Some i) = refl
+    go None = refl
 
 decides_on : (p : Policy) (b : List ℕ) (u : ℕ) (q : Request) → Decides (accepted (verdict_on p b u q)) (Passed p b u q)
 unfolding verdict_on

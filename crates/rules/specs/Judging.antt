@@ -1,8 +1,6 @@
 -- The judge. [01:no.13] "Tested in order; the first that applies is returned, cited 255, sheet unchanged."
-use Rattle.std.specs.Prelude.{◌≡◌, Bool, List, [], ◌∷◌, ℕ, ◌≤◌, eqb}
+use Rattle.std.specs.Prelude.{◌≡◌, Bool, List, [], ◌∷◌, ℕ, ◌≤◌, eqb, Option, Some, None}
 use Rattle.reach.specs.declared.Policy.{Policy}
-use Rattle.reach.specs.declared.Place.{Place}
-use Rattle.reach.specs.declared.Place.TheVariants.{At, Nothing}
 use Rattle.reach.specs.Tests.{◌⇒◌∥◌}
 use Rattle.reach.specs.Privileges.{permitting}
 use Rattle.rules.specs.declared.Request.{Request}
@@ -51,9 +49,9 @@ cited_of HandOver = 255
 cited_of Orphan = 255
 
 -- An accepted USE is done by the lowest place that permits it; a USE that has passed check 9 has one.
-abbrev pub done_by : Place → Verdict
-done_by (At i) = DoneBy i
-done_by Nothing = Done
+abbrev pub done_by : Option ℕ → Verdict
+done_by (Some i) = DoneBy i
+done_by None = Done
 
 unfoldable pub done : Policy → ℕ → Request → Verdict
 done p u (Make i s g) = Done

@@ -2,7 +2,7 @@
 -- whatever the tables.
 use Prim.Native.Nat.{◌+◌, ◌-◌, ◌*◌, ◌^◌}
 use Rattle.reach.proofs.Upward.{Climbing}
-use Rattle.reach.proofs.climbing.climb.Given as goal
+use Rattle.reach.proofs.Objects.above.Given as goal
 
 abbrev pub invariant-loop-left : goal.invariant-loop-left
 invariant-loop-left l = Climbing l.sorts l.memberships l.x l.found l.over l.met l.left

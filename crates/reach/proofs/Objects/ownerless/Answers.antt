@@ -1,6 +1,6 @@
 use native.Mathlib.Omega.{arith}
 use Rattle.reach.proofs.Owning.{left_is, ownerless_is}
-use Rattle.reach.proofs.orphans.ownerless.Goals as goal
+use Rattle.reach.proofs.Objects.ownerless.Goals as goal
 
 pub loop-left-init : goal.loop-left-init
 loop-left-init c = c.scan-first.ensures

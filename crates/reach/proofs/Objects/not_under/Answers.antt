@@ -2,12 +2,12 @@
 use mathlib.Core.Path.{refl}
 use Rattle.reach.specs.Asking.{reach_of}
 use Rattle.reach.proofs.WordSets.{set_as, set_mask, set_not, set_below}
-use Rattle.reach.proofs.rounds.not_under.Goals as goal
+use Rattle.reach.proofs.Objects.not_under.Goals as goal
 
 pub returns : goal.returns
 returns c =
     let a = c.args in
-    let m = c.masks_of-m.ensures (reach_of a.sorts.now a.memberships.now) refl in
+    let m = c.masks_of-m.ensures (reach_of a.self.sorts.now a.self.memberships.now) refl in
     let used = set_mask a.set m.objects in
     let under = c.descend-under.ensures _ (record { rows = refl; masks = m }) in
     set_as
