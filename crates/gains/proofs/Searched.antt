@@ -28,7 +28,6 @@ use Rattle.reach.proofs.Meeting.{target_of_sort, sort_of_target}
 use Rattle.gains.specs.declared.Permission.{Permission}
 use Rattle.std.specs.Prelude.{Option, Some as Found, None, is_some}
 use Rattle.gains.specs.Lacking.{Above, UnderPut, LacksPermit, LacksRuled}
-use Rattle.gains.specs.Lending.{Ruled}
 use Rattle.gains.specs.Searching.{Joined, FirstFresh, Fresh}
 
 -- ---- Words
@@ -255,20 +254,3 @@ module _ (p : Policy) {u over : ℕ} (user : User (view p) u) (o : Above p u ove
 
     pub grant_found : (q : Option Permission) → FirstFresh (Fresh p.sorts p.memberships had got 0 0) q → Decides (is_some q) (LacksRuled (view p) u r)
     grant_found q f = found_decides q f fresh_ruled (λ l. (l.gear, l.operation, l.number, ruled_fresh l))
-
--- The same, by tables that are lent and handed on.
-pub put_found_lent : (p : Policy) {u over x g group more : ℕ} {sorts memberships had got : List ℕ} {rules : List AccessRule}
-    → Ruled p sorts memberships rules → User (view p) u → Above p u over → TableOf 8 had (GrantedAt rules over) → Above p g group
-    → SetOf more (λ t. UnderPut (view p) x g u t) → TableOf 8 got (GrantedAt rules more) → (r : Option Permission)
-    → FirstFresh (Fresh sorts memberships had got x group) r → Decides (is_some r) (LacksPermit (view p) u x g)
-put_found_lent p {over = over} {x = x} {group = group} {more = more} {memberships = memberships} {had = had} {got = got} k user o h a w t r f =
-    put_found p user o
-    (subst (λ (l : List AccessRule). TableOf 8 had (GrantedAt l over)) (sym k.rules) h)
-    a
-    w
-    (subst (λ (l : List AccessRule). TableOf 8 got (GrantedAt l more)) (sym k.rules) t)
-    r
-    (subst
-    (λ (m : List ℕ). FirstFresh (Fresh p.sorts m had got x group) r)
-    (sym k.lent.memberships)
-    (subst (λ (s : List ℕ). FirstFresh (Fresh s memberships had got x group) r) (sym k.lent.sorts) f))

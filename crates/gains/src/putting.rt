@@ -33,7 +33,8 @@ pub fn lacks_first(p: &Policy, u: u8, b: u8, object: u64) -> bool
 fn pairs_come(p: &Policy, u: u8, asked: Placing) -> bool
     ensures { (x g : ℕ) → Placed p.now u x g asked → Decides result (LacksPair (view p.now) u x g) }
 {
-    let Placing { first: object, second: group, .. } = asked;
+    let object = asked.first;
+    let group = asked.second;
     let opened = sides_of(&p.appointments, u, group & !object);
     if opened.first | opened.second == 0 {
         return false;
@@ -48,7 +49,9 @@ fn pairs_come(p: &Policy, u: u8, asked: Placing) -> bool
 fn posts_grow(asked: Placing) -> bool
     ensures { Decides result (Grows asked.posts.owner asked.first asked.second ⊎ Grows asked.posts.manager asked.first asked.second) }
 {
-    let Placing { posts, first: object, second: group, .. } = asked;
+    let posts = asked.posts;
+    let object = asked.first;
+    let group = asked.second;
     fresh(posts.owner, posts.owner, object, group)
         || fresh(posts.manager, posts.manager, object, group)
 }
@@ -63,10 +66,12 @@ fn meets(posts: Posts, set: u64) -> bool
 // Checks 10 and 11 of a PUT by a user of an object in use. Into what is no group, and where the object is under the group already, it gives
 // nothing. Else its sender gains exactly if he holds the group and not the object in one of the two ways, or a pair comes, or a permission is
 // found; and it hands over exactly if he does not own the object, and some user holds the group and not the object.
-fn put_gives(p: &Policy, u: u8, x: u8, g: u8, asked: Placing) -> Verdict
-    ensures { Placed p.now u x g asked → result ≡ given_by p.now u (Put x g) }
+fn put_gives(p: Policy, u: u8, x: u8, g: u8, asked: Placing) -> Verdict
+    ensures { Placed p u x g asked → result ≡ given_by p u (Put x g) }
 {
-    let Placing { posts, first: object, second: group, .. } = asked;
+    let posts = asked.posts;
+    let object = asked.first;
+    let group = asked.second;
     let objects = p.objects();
     if !objects.is_group(g) {
         return Verdict::Done;
@@ -77,20 +82,20 @@ fn put_gives(p: &Policy, u: u8, x: u8, g: u8, asked: Placing) -> Verdict
     if posts_grow(asked) {
         return Verdict::OwnGain;
     }
-    if pairs_come(p, u, asked) {
+    if pairs_come(&p, u, asked) {
         return Verdict::OwnGain;
     }
     let over = objects.above(u);
     let more = only_if(has(over, x), group & !over);
     if rules_open(&p.rules, over, more, group & !object) {
-        if put_permission(p, over, x, group).is_some() {
+        if put_permission(&p, over, x, group).is_some() {
             return Verdict::OwnGain;
         }
     }
     if posts.owner & object != 0 {
         return Verdict::Done;
     }
-    handed(hands_over(p, object, group))
+    handed(hands_over(&p, object, group))
 }
 
 // Checks 8 to 11 of a PUT, in their order. They are asked together, since all of them but the first go by what its object and its group are
@@ -102,9 +107,11 @@ pub fn put_verdict(p: Policy, u: u8, x: u8, g: u8) -> Verdict
     if asked.direct {
         return Verdict::AlreadySo;
     }
-    let Placing { posts, first: object, second: group, .. } = asked;
+    let posts = asked.posts;
+    let object = asked.first;
+    let group = asked.second;
     if !(meets(posts, object) & meets(posts, group)) {
         return Verdict::NoAuthority;
     }
-    put_gives(&p, u, x, g, asked)
+    put_gives(p, u, x, g, asked)
 }

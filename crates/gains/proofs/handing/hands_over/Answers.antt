@@ -5,13 +5,12 @@ use Rattle.gains.proofs.PutOver.{holders_at, some_lacks}
 use Rattle.gains.proofs.handing.hands_over.Goals as goal
 
 pub returns : goal.returns
-returns c = λ p x g e f o s.
-    let l = c.args.appointments.now in
-    some_lacks p f o s
-    (holders_at l 1 _ c.holders.ensures (omega arith) (omega arith))
-    (holders_at l 1 _ c.holders-2.ensures (omega arith) (omega arith))
-    (holders_at l 2 _ c.holders-3.ensures (omega arith) (omega arith))
-    (holders_at l 2 _ c.holders-4.ensures (omega arith) (omega arith))
-    e
-    c.some_user.ensures
+returns c = λ x g o s.
+    let p = c.args.p.now in
+    some_lacks p o s
+    (holders_at p.appointments 1 _ c.holders.ensures (omega arith) (omega arith))
+    (holders_at p.appointments 1 _ c.holders-2.ensures (omega arith) (omega arith))
+    (holders_at p.appointments 2 _ c.holders-3.ensures (omega arith) (omega arith))
+    (holders_at p.appointments 2 _ c.holders-4.ensures (omega arith) (omega arith))
+    (rw c.objects.ensures.sorts at c.some_user.ensures)
     refl

@@ -5,7 +5,7 @@ use Prim.Native.Nat.{◌<◌}
 use lib.Count.{count_trailing_zeros}
 use Rattle.reach.specs.Words.{bit}
 use Rattle.reach.proofs.Bits.{lowest_bit}
-use Rattle.reach.proofs.Testing.{decides_none, decides_some_at}
+use Rattle.reach.proofs.Testing.{decides_none, decides_some_at, decides_at, decides_number, refuted}
 use Rattle.reach.proofs.WordSets.{set_none, set_empty}
 use Rattle.reach.proofs.Gathering.{left_less, pick_start, pick_step, pick_end}
 use Rattle.std.proofs.Common.{rules}
@@ -24,15 +24,11 @@ overflow_cast-h c =
     let low = lowest (goal.at.overflow_cast-h c).In-loop-left in
     omega (arith, low.0)
 
-pub bounds-sorts-h : goal.bounds-sorts-h
-bounds-sorts-h c =
-    let low = lowest (goal.at.bounds-sorts-h c).In-loop-left in
-    low.0
-
-pub returns-then-sorts-h-eq2 : goal.returns-then-sorts-h-eq2
-returns-then-sorts-h-eq2 c =
-    let low = lowest (goal.at.returns-then-sorts-h-eq2 c).In-loop-left in
-    decides_some_at (count_trailing_zeros 64 c.loop-left.left) low.0 (c.loop-left.invariant.within _ low.1, omega (arith, c.if-sorts-h-eq2.true))
+pub returns-then-is_user : goal.returns-then-is_user
+returns-then-is_user c =
+    let low = lowest (goal.at.returns-then-is_user c).In-loop-left in
+    decides_some_at (count_trailing_zeros 64 c.loop-left.left) low.0
+    (c.loop-left.invariant.within _ low.1, (decides_at c.is_user.ensures (decides_number _ _ 2 (omega arith))).sound c.if-is_user.true)
 
 pub overflow_shl-left : goal.overflow_shl-left
 overflow_shl-left c =
@@ -47,7 +43,7 @@ loop-left-smaller c =
 pub loop-left-preserved : goal.loop-left-preserved
 loop-left-preserved c =
     let low = lowest (goal.at.loop-left-preserved c).In-loop-left in
-    pick_step false c.loop-left.invariant (count_trailing_zeros 64 c.loop-left.left) low.1 (decides_none (λ e. omega (arith, e, c.if-sorts-h-eq2.false)))
+    pick_step false c.loop-left.invariant (count_trailing_zeros 64 c.loop-left.left) low.1 (decides_none (refuted (decides_at c.is_user.ensures (decides_number _ _ 2 (omega arith))) c.if-is_user.false))
     (set_none (λ x w. false≢true w.0))
 
 pub returns : goal.returns

@@ -1,11 +1,11 @@
 -- The numbers of the set are gone through, the lowest first: of those that are no longer left none is a user.
 use mathlib.Core.Path.{◌≡◌}
-use lib.ListN.{get_or}
+use Rattle.reach.specs.Tables.{sort_in}
 use Rattle.reach.proofs.Gathering.{Picking}
 use Rattle.gains.proofs.handing.some_user.Given as goal
 
 abbrev pub invariant-loop-left : goal.invariant-loop-left
-invariant-loop-left l = Picking (λ h. get_or l.sorts h 0 ≡ 2) l.set 0 l.left
+invariant-loop-left l = Picking (λ h. sort_in l.objects.sorts.now h ≡ 2) l.set 0 l.left
 
 abbrev pub decreases-loop-left : goal.decreases-loop-left
 decreases-loop-left l = l.left

@@ -6,8 +6,8 @@ use Rattle.gains.proofs.searching.first_fresh.Given as goal
 
 abbrev pub invariant-loop-operation : goal.invariant-loop-operation
 invariant-loop-operation l =
-    (l.found ≡ None) × ((j : ℕ) → j < l.operation → Fresh l.sorts l.memberships l.had l.got l.x l.over l.target j → ⊥)
+    (l.found ≡ None) × ((j : ℕ) → j < l.operation → Fresh l.p.sorts l.p.memberships l.had l.got l.x l.over l.target j → ⊥)
 
 abbrev pub invariant-search : goal.invariant-search
 invariant-search l =
-    (l.found ≡ None) × ((z : ℕ) → z < l.target → (j : ℕ) → j < 8 → Fresh l.sorts l.memberships l.had l.got l.x l.over z j → ⊥)
+    (l.found ≡ None) × ((z : ℕ) → z < l.target → (j : ℕ) → j < 8 → Fresh l.p.sorts l.p.memberships l.had l.got l.x l.over z j → ⊥)
