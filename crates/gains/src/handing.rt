@@ -1,13 +1,11 @@
 // Check 11: what PUT would hand over.
 ghost use Rattle.std.specs.Prelude.{◌≡◌, ℕ, ◌<◌, get_or};
 ghost use Rattle.reach.specs.Words.{bit, SetOf};
-ghost use Rattle.reach.specs.Tests.{Some, Decides, ◌⇒◌∥◌};
+ghost use Rattle.reach.specs.Tests.{Some, Decides};
 ghost use Rattle.reach.specs.Tables.{sort_in, no_appointment, view};
-ghost use Rattle.rules.specs.declared.Verdict.TheVariants.{Done, HandOver};
 ghost use Rattle.gains.specs.Lacking.{HolderOf, SomeLacks, Above};
 
 use reach::{Appointment, Objects, Policy, Post, has, just, only_if};
-use rules::Verdict;
 
 // The holder of this appointment, if it is of that kind and its A is in the set.
 fn holder_of(w: Appointment, kind: u8, over: u64) -> u64
@@ -52,14 +50,4 @@ pub fn hands_over(p: &Policy, object: u64, group: u64) -> bool
     let owners = holders(appointments, owner, group) & !holders(appointments, owner, object);
     let managers = holders(appointments, manager, group) & !holders(appointments, manager, object);
     some_user(p.objects(), owners | managers)
-}
-
-// The verdict where there is no own gain: hand-over, if there is one, and else done.
-pub fn handed(over: bool) -> Verdict
-    ensures { result ≡ (over ⇒ HandOver ∥ Done) }
-{
-    if over {
-        return Verdict::HandOver;
-    }
-    Verdict::Done
 }

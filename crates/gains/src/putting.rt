@@ -7,17 +7,17 @@ ghost use Rattle.reach.specs.Tables.{view};
 ghost use Rattle.reach.specs.Reach.{InUse, User};
 ghost use Rattle.reach.specs.Privileges.{Administers};
 ghost use Rattle.rules.specs.declared.Request.TheVariants.{Put};
-ghost use Rattle.rules.specs.declared.Verdict.TheVariants.{AlreadySo, NoAuthority};
+ghost use Rattle.rules.specs.declared.Refusal.TheVariants.{AlreadySo, NoAuthority};
 ghost use Rattle.rules.specs.Refusals.{already_so, no_authority};
 ghost use Rattle.gains.specs.Giving.{given_by};
 ghost use Rattle.gains.specs.Lacking.{Grows, LacksPair, Above};
 ghost use Rattle.gains.specs.Lending.{Placed};
 
-use crate::handing::{handed, hands_over};
+use crate::handing::hands_over;
 use crate::opening::{put_permission, rules_open};
 use crate::searching::fresh;
 use reach::{Placing, Policy, Posts, covers_pair, has, only_if, sides_of};
-use rules::Verdict;
+use rules::Refusal;
 
 // Whether b is in use, and u does not administer the pair of x and b, where `object` is all that x is under.
 pub fn lacks_first(p: &Policy, u: u8, b: u8, object: u64) -> bool
@@ -66,7 +66,7 @@ fn meets(posts: Posts, set: u64) -> bool
 // Checks 10 and 11 of a PUT by a user of an object in use. Into what is no group, and where the object is under the group already, it gives
 // nothing. Else its sender gains exactly if he holds the group and not the object in one of the two ways, or a pair comes, or a permission is
 // found; and it hands over exactly if he does not own the object, and some user holds the group and not the object.
-fn put_gives(p: Policy, u: u8, x: u8, g: u8, asked: Placing) -> Verdict
+fn put_gives(p: Policy, u: u8, x: u8, g: u8, asked: Placing) -> Result<(), Refusal>
     ensures { Placed p u x g asked → result ≡ given_by p u (Put x g) }
 {
     let posts = asked.posts;
@@ -74,44 +74,40 @@ fn put_gives(p: Policy, u: u8, x: u8, g: u8, asked: Placing) -> Verdict
     let group = asked.second;
     let objects = p.objects();
     if !objects.is_group(g) {
-        return Verdict::Done;
+        return Ok(());
     }
     if has(object, g) {
-        return Verdict::Done;
+        return Ok(());
     }
     if posts_grow(asked) {
-        return Verdict::OwnGain;
+        return Err(Refusal::OwnGain);
     }
     if pairs_come(&p, u, asked) {
-        return Verdict::OwnGain;
+        return Err(Refusal::OwnGain);
     }
     let over = objects.above(u);
     let more = only_if(has(over, x), group & !over);
     if rules_open(&p.rules, over, more, group & !object) {
         if put_permission(&p, over, x, group).is_some() {
-            return Verdict::OwnGain;
+            return Err(Refusal::OwnGain);
         }
     }
     if posts.owner & object != 0 {
-        return Verdict::Done;
+        return Ok(());
     }
-    handed(hands_over(&p, object, group))
+    Refusal::HandOver.if_so(hands_over(&p, object, group))
 }
 
 // Checks 8 to 11 of a PUT, in their order. They are asked together, since all of them but the first go by what its object and its group are
 // under, and each of the two is climbed from once.
-pub fn put_verdict(p: Policy, u: u8, x: u8, g: u8) -> Verdict
-    ensures { result ≡ (already_so p (Put x g) ⇒ AlreadySo ∥ no_authority p u (Put x g) ⇒ NoAuthority ∥ given_by p u (Put x g)) }
+pub fn put_verdict(p: Policy, u: u8, x: u8, g: u8) -> Result<(), Refusal>
+    ensures { result ≡ (already_so p (Put x g) ⇒ Err AlreadySo ∥ no_authority p u (Put x g) ⇒ Err NoAuthority ∥ given_by p u (Put x g)) }
 {
     let asked = p.placing(u, x, g);
-    if asked.direct {
-        return Verdict::AlreadySo;
-    }
+    Refusal::AlreadySo.if_so(asked.direct)?;
     let posts = asked.posts;
     let object = asked.first;
     let group = asked.second;
-    if !(meets(posts, object) & meets(posts, group)) {
-        return Verdict::NoAuthority;
-    }
+    Refusal::NoAuthority.if_so(!(meets(posts, object) & meets(posts, group)))?;
     put_gives(p, u, x, g, asked)
 }
