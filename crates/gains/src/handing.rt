@@ -25,19 +25,18 @@ fn holders(appointments: &[Appointment; 32], kind: u8, over: u64) -> u64
     set
 }
 
+// Whether h is a user among these.
+fn user_among(objects: Objects, set: u64, h: u8) -> bool
+    ensures { Decides result ((bit set h ≡ 1) × (sort_in objects.entry.sorts.now h ≡ 2)) }
+{
+    has(set, h) && objects.is_user(h)
+}
+
 // Whether some one of these is a user.
 fn some_user(objects: Objects, set: u64) -> bool
     ensures { Decides result (Some 64 (λ h. (bit set h ≡ 1) × (sort_in objects.entry.sorts.now h ≡ 2))) }
 {
-    let mut left = set;
-    while left != 0 {
-        let h = u64::trailing_zeros(left) as u8;
-        if objects.is_user(h) {
-            return true;
-        }
-        left &= !(1u64 << h);
-    }
-    false
+    (0..64).any(|h| user_among(objects, set, h))
 }
 
 // Whether some user holds the group and not the object, as an owner or as a manager.
