@@ -7,12 +7,10 @@ use Prim.Native.Nat.{ℕ, ◌<◌, ◌≤◌}
 use native.Mathlib.Omega.{arith}
 use lib.Dec.{eqb, ltb}
 use Rattle.reach.specs.declared.Policy.{Policy}
-use Rattle.reach.specs.declared.Place.{Place}
-use Rattle.reach.specs.declared.Place.TheVariants.{At, Nothing}
 use Rattle.reach.specs.Tests.{◌⇒◌∥◌, Decides}
 use Rattle.reach.specs.Tables.{sort, view}
 use Rattle.reach.specs.Reach.{in_use}
-use Rattle.reach.specs.Privileges.{Permitted, permitted, permitting}
+use Rattle.reach.specs.Privileges.{Permitted, permitted}
 use Rattle.reach.proofs.Testing.{decides_as, decides_same, decides_ltb, decides_eqb}
 use Rattle.reach.proofs.Chains.{in_use_below}
 use Rattle.reach.proofs.Deciding.{permitted_decides}
@@ -21,18 +19,12 @@ use Rattle.rules.proofs.Bounded.{code_bounded}
 use Rattle.rules.proofs.Fitting.{known_sender}
 use Rattle.rules.proofs.Passing.{passes_ltb}
 use Rattle.rules.specs.Authority.{may}
-use Rattle.rules.specs.declared.Verdict.{Verdict}
 use Rattle.rules.specs.declared.Request.TheVariants.{Use}
-use Rattle.rules.specs.Judging.{code_of, verdict, verdict_on, done_by, done}
+use Rattle.rules.specs.Judging.{Verdict, code_of, verdict, verdict_on, done}
 use Rattle.rules.specs.Refusals.{stranger, off_the_sheet, absent, wrong_sort, no_authority}
 use Rattle.rules.specs.Refusals.{torn, unknown, misfit, already_so, own_gain, hand_over, orphan}
 use Rattle.rules.specs.Records.{request, length_of}
-use Rattle.access.specs.Using.{use_record, use_code}
-
--- What is done by a rule has the number 0.
-done_zero : (w : Place) → code_of (done_by w) ≡ 0
-done_zero (At i) = refl
-done_zero Nothing = refl
+use Rattle.access.specs.Using.{use_record, use_verdict, use_code}
 
 -- The number behind a row.
 code_row : (t : Bool) (a b : Verdict) {m n : ℕ} → code_of a ≡ m → code_of b ≡ n → code_of (t ⇒ a ∥ b) ≡ (t ⇒ m ∥ n)
@@ -43,16 +35,15 @@ code_row false a b e f = f
 pub use_table : (p : Policy) (u x k : ℕ)
     → use_code p u x k ≡ (stranger p u ⇒ 4 ∥ off_the_sheet (Use x k) ⇒ 5 ∥ absent p (Use x k) ⇒ 6 ∥ wrong_sort p (Use x k) ⇒ 7
     ∥ no_authority p u (Use x k) ⇒ 9 ∥ 0)
-unfolding use_code use_record verdict verdict_on torn unknown misfit request length_of already_so own_gain hand_over orphan done
+unfolding use_code use_verdict use_record verdict verdict_on torn unknown misfit request length_of already_so own_gain hand_over orphan done
 use_table p u x k =
     code_row (stranger p u) _ _ refl (code_row (off_the_sheet (Use x k)) _ _ refl (code_row (absent p (Use x k)) _ _ refl
-    (code_row (wrong_sort p (Use x k)) _ _ refl (code_row (no_authority p u (Use x k)) _ _ refl (done_zero (permitting p u k
-    x))))))
+    (code_row (wrong_sort p (Use x k)) _ _ refl (code_row (no_authority p u (Use x k)) _ _ refl refl))))
 
 -- 0 exactly where u is permitted: what has passed check 9 is permitted, and a permission has a user, a target in use
 -- and an operation.
 pub use_decides : (p : Policy) (u x k : ℕ) → Decides (eqb (use_code p u x k) 0) (Permitted (view p) u k x)
-unfolding use_code use_record request length_of torn unknown misfit off_the_sheet absent wrong_sort already_so no_authority may
+unfolding use_code use_verdict use_record request length_of torn unknown misfit off_the_sheet absent wrong_sort already_so no_authority may
     own_gain hand_over orphan in_use
 use_decides p u x k =
     decides_as
@@ -97,4 +88,4 @@ use_permitted p u x k = decides_same _ _ (use_decides p u x k) (permitted_decide
 -- It is a number of the judge's.
 pub use_bounded : (p : Policy) (u x k : ℕ) → use_code p u x k ≤ 12
 unfolding use_code
-use_bounded p u x k = code_bounded (verdict p (use_record u x k))
+use_bounded p u x k = code_bounded (use_verdict p u x k)

@@ -1,8 +1,6 @@
 -- What C and Rust are told of a policy: a set of objects in eight bytes, a number in one, and the founding as a picture.
-use Rattle.std.specs.Prelude.{◌≡◌, Bool, ◌&&◌, ℕ, eqb, leb, length}
+use Rattle.std.specs.Prelude.{◌≡◌, Bool, ◌&&◌, ℕ, eqb, leb, length, Option, Some, None}
 use Rattle.reach.specs.declared.Policy.{Policy}
-use Rattle.reach.specs.declared.Place.{Place}
-use Rattle.reach.specs.declared.Place.TheVariants.{At, Nothing}
 use Rattle.reach.specs.Words.{SetOf}
 use Rattle.reach.specs.Tests.{◌⇒◌∥◌}
 use Rattle.reach.specs.Tables.{initial}
@@ -29,9 +27,9 @@ pub record SetTold (picture : Bytes) (asked : Policy → ℕ → Type 0) (buffer
   pub told : AnswerTold picture (bytes_of 8 set) buffer buffer' n
 
 -- A place of a table in one byte: 255 for none.
-abbrev pub place_byte : Place → ℕ
-place_byte (At i) = i
-place_byte Nothing = 255
+abbrev pub place_byte : Option ℕ → ℕ
+place_byte (Some i) = i
+place_byte None = 255
 
 -- The founding's picture over the first 960 bytes of the buffer. A shorter buffer gets nothing, and the result is 0.
 pub record InitialTold (buffer buffer' : Bytes) (n : ℕ) : Type 0 where

@@ -1,7 +1,7 @@
 // Questions on the policy of a picture, for C and Rust: each is answered by the policy's own method. Where the picture isn't 960 bytes
 // or the buffer is too short for the answer, nothing is written, and the result is 0. The founding's picture is here too.
 ghost use Rattle.std.specs.Prelude.{◌≡◌, [], ◌∷◌};
-ghost use Rattle.reach.specs.Tables.{view, sort};
+ghost use Rattle.reach.specs.Tables.{view, sort, sort_number};
 ghost use Rattle.reach.specs.Reach.{Under};
 ghost use Rattle.reach.specs.Privileges.{Owns, Manages, Administers, Permitted, permitting};
 ghost use Rattle.export.specs.Picture.{policy_of, bytes_of};
@@ -9,7 +9,7 @@ ghost use Rattle.export.specs.Asked.{AnswerTold, SetTold, InitialTold, place_byt
 
 use crate::drawing::{put_policy, put_word};
 use crate::reading::policy_of;
-use reach::{Place, Policy};
+use reach::{Policy, Sort};
 
 // A set into the first eight bytes of out, the lowest first.
 fn tell_set(picture: &[u8], set: u64, out: &mut [u8]) -> usize
@@ -40,13 +40,17 @@ fn tell_byte(picture: &[u8], byte: u8, out: &mut [u8]) -> usize
 }
 
 // A place of a table as a byte: 255 for none.
-fn place_byte(place: Place) -> u8
+fn place_byte(place: Option<u8>) -> u8
     ensures { result ≡ place_byte place }
 {
-    match place {
-        Place::At(i) => i,
-        Place::Nothing => 255,
-    }
+    place.unwrap_or(255)
+}
+
+// A sort as a byte: 0 for none.
+fn sort_byte(sort: Option<Sort>) -> u8
+    ensures { result ≡ sort_number sort }
+{
+    sort.map_or(0, |s| s as u8)
 }
 
 // The founding's picture over the first 960 bytes of the buffer, and the result is 960. A shorter buffer gets nothing, and the result
@@ -68,7 +72,7 @@ pub extern "C" fn selkaum_sort(policy: &[u8], x: u8, out: &mut [u8]) -> usize
     ensures { AnswerTold policy.now (sort (policy_of policy.now) x ∷ []) out.old out.new result }
 {
     let sort = policy_of(policy).sort(x);
-    tell_byte(policy, sort, out)
+    tell_byte(policy, sort_byte(sort), out)
 }
 
 // All that x is under, itself too. An empty object, and a number past the table, is under nothing. Eight bytes.

@@ -6,6 +6,7 @@ use mathlib.Core.Logic.{◌⊎◌, inl, inr, ⊎_elim}
 use Prim.Native.Nat.{ℕ, ◌^◌, ◌<◌}
 use lib.Bits.{bit_and}
 use lib.Dec.{eqb}
+use Rattle.std.specs.Prelude.{Result, Err}
 use Rattle.reach.specs.declared.Policy.{Policy}
 use Rattle.reach.specs.declared.Posts.{Posts}
 use Rattle.reach.specs.Words.{Meet}
@@ -20,8 +21,8 @@ use Rattle.reach.proofs.Reaching.{under_lower}
 use Rattle.reach.proofs.Deciding.{holds_decides}
 use Rattle.reach.proofs.Meeting.{meet_holds, holds_meet}
 use Rattle.rules.specs.declared.Request.TheVariants.{Put}
-use Rattle.rules.specs.declared.Verdict.{Verdict}
-use Rattle.rules.specs.declared.Verdict.TheVariants.{AlreadySo, NoAuthority}
+use Rattle.rules.specs.declared.Refusal.{Refusal}
+use Rattle.rules.specs.declared.Refusal.TheVariants.{AlreadySo, NoAuthority}
 use Rattle.rules.specs.Authority.{governs, may}
 use Rattle.rules.specs.Refusals.{already_so, no_authority}
 use Rattle.gains.specs.Giving.{given_by}
@@ -63,18 +64,18 @@ both_first false t e = e
 
 -- Checks 8 and 9 of a PUT, and what comes after them.
 module _ (p : Policy) (u x g : ℕ) where
-  abbrev Answer : Verdict → Type 0
-  Answer r = r ≡ (already_so p (Put x g) ⇒ AlreadySo ∥ no_authority p u (Put x g) ⇒ NoAuthority ∥ given_by p u (Put x g))
+  abbrev Answer : Result (Unit {0}) Refusal → Type 0
+  Answer r = r ≡ (already_so p (Put x g) ⇒ Err AlreadySo ∥ no_authority p u (Put x g) ⇒ Err NoAuthority ∥ given_by p u (Put x g))
 
-  pub put_already : direct p x g ≡ true → Answer AlreadySo
+  pub put_already : direct p x g ≡ true → Answer (Err AlreadySo)
   unfolding already_so
   put_already e = rw e
 
   module _ {s t : Bool} (new : direct p x g ≡ false) (e : s ≡ governs p u x) (f : t ≡ governs p u g) where
-    pub put_unentitled : (s && t) ≡ false → Answer NoAuthority
+    pub put_unentitled : (s && t) ≡ false → Answer (Err NoAuthority)
     unfolding already_so no_authority may
     put_unentitled k = rw (new, sym e, sym f, k)
 
-    pub put_entitled : {r : Verdict} → (s && t) ≡ true → r ≡ given_by p u (Put x g) → Answer r
+    pub put_entitled : {r : Result (Unit {0}) Refusal} → (s && t) ≡ true → r ≡ given_by p u (Put x g) → Answer r
     unfolding already_so no_authority may
     put_entitled k h = rw (new, sym e, sym f, k, h)

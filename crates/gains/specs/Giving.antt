@@ -1,13 +1,13 @@
 -- What a request would give its sender, as check 10 looks for it.
-use Rattle.std.specs.Prelude.{ℕ, ◌<◌}
+use Rattle.std.specs.Prelude.{ℕ, ◌<◌, Result, Ok, Err}
 use Rattle.reach.specs.declared.Policy.{Policy}
 use Rattle.reach.specs.Tables.{view}
 use Rattle.reach.specs.Reach.{InUse}
 use Rattle.reach.specs.Privileges.{Permitted}
 use Rattle.reach.specs.Tests.{◌⇒◌∥◌}
 use Rattle.rules.specs.declared.Request.{Request}
-use Rattle.rules.specs.declared.Verdict.{Verdict}
-use Rattle.rules.specs.declared.Verdict.TheVariants.{Done, OwnGain, HandOver}
+use Rattle.rules.specs.declared.Refusal.{Refusal}
+use Rattle.rules.specs.declared.Refusal.TheVariants.{OwnGain, HandOver}
 use Rattle.rules.specs.Refusals.{own_gain, hand_over}
 use Rattle.rules.specs.Doing.{after}
 use Rattle.gains.specs.declared.Gain.{Gain}
@@ -21,8 +21,8 @@ pub record ComesToUse (p : Policy) (u : ℕ) (q : Request) (x k : ℕ) : Type 0 
   pub lacked : Permitted (view p) u k x → ⊥
 
 -- Checks 10 and 11, in their order.
-abbrev pub given_by : Policy → ℕ → Request → Verdict
-given_by p u q = own_gain p u q ⇒ OwnGain ∥ hand_over p u q ⇒ HandOver ∥ Done
+abbrev pub given_by : Policy → ℕ → Request → Result (Unit {0}) Refusal
+given_by p u q = own_gain p u q ⇒ Err OwnGain ∥ hand_over p u q ⇒ Err HandOver ∥ Ok tt
 
 -- [01:runner.4] "The search for a permit that the sender would gain goes through gear and operations and stops at the first found.": the
 -- first permission that u would gain, target by target and operation by operation, or that there is none.

@@ -2,13 +2,11 @@
 ghost use Rattle.std.specs.Prelude.{◌≡◌, ℕ, ◌<◌, get_or};
 ghost use Rattle.reach.specs.declared.Policy.{Policy};
 ghost use Rattle.reach.specs.Words.{bit, SetOf};
-ghost use Rattle.reach.specs.Tests.{Some, Decides, ◌⇒◌∥◌};
+ghost use Rattle.reach.specs.Tests.{Some, Decides};
 ghost use Rattle.reach.specs.Tables.{no_appointment, view};
-ghost use Rattle.rules.specs.declared.Verdict.TheVariants.{Done, HandOver};
 ghost use Rattle.gains.specs.Lacking.{HolderOf, SomeLacks, Above};
 
 use reach::{Appointment, has, just, only_if};
-use rules::Verdict;
 
 // Who holds something above the object, and who holds something above the group, as sets.
 #[derive(Clone, Copy)]
@@ -85,14 +83,4 @@ pub fn hands_over(
         sorts,
         (owners.group & !owners.object) | (managers.group & !managers.object),
     )
-}
-
-// The verdict where there is no own gain: hand-over, if there is one, and else done.
-pub fn handed(over: bool) -> Verdict
-    ensures { result ≡ (over ⇒ HandOver ∥ Done) }
-{
-    if over {
-        return Verdict::HandOver;
-    }
-    Verdict::Done
 }

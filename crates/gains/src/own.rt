@@ -27,7 +27,7 @@ pub fn appoint_gains(p: Policy, u: u8, place: u8, w: Appointment) -> bool
         return false;
     }
     let above = climb(&sorts, &memberships, w.a);
-    let posts = posts_of(appointments, u);
+    let posts = posts_of(&appointments, u);
     if w.kind == 1 {
         return posts.owner & above == 0;
     }

@@ -7,20 +7,20 @@ ghost use Rattle.reach.specs.Tables.{view};
 ghost use Rattle.reach.specs.Reach.{InUse};
 ghost use Rattle.reach.specs.Privileges.{Administers};
 ghost use Rattle.rules.specs.declared.Request.TheVariants.{Put};
-ghost use Rattle.rules.specs.declared.Verdict.TheVariants.{AlreadySo, NoAuthority};
+ghost use Rattle.rules.specs.declared.Refusal.TheVariants.{AlreadySo, NoAuthority};
 ghost use Rattle.rules.specs.Refusals.{already_so, no_authority};
 ghost use Rattle.gains.specs.Giving.{given_by};
 ghost use Rattle.gains.specs.Lacking.{Grows, LacksPair, Above};
 ghost use Rattle.gains.specs.Lending.{Heard, Placed};
 
-use crate::handing::{handed, hands_over};
+use crate::handing::hands_over;
 use crate::opening::{is_found, put_permission, rules_open};
 use crate::searching::fresh;
 use reach::{
     Appointment, Placing, Policy, Posts, climb, covers_pair, has, not_under, only_if, sides_of,
     sort_in,
 };
-use rules::Verdict;
+use rules::Refusal;
 
 // Whether b is in use, and u does not administer the pair of x and b, where `object` is all that x is under.
 pub fn lacks_first<'a>(
@@ -38,7 +38,7 @@ pub fn lacks_first<'a>(
     if over == 0 {
         return false;
     }
-    !covers_pair(appointments, u, object, over)
+    !covers_pair(&appointments, u, object, over)
 }
 
 // Whether u comes to administer a pair by one of his appointments: its A is opened, and its B is in use and not under the B of any that has
@@ -54,11 +54,11 @@ fn pairs_come<'a>(
     ensures { (p : Policy) (x g : ℕ) → Heard p sorts.now memberships.now appointments u →
         Above p x object → Above p g group → Decides result (LacksPair (view p) u x g) }
 {
-    let opened = sides_of(appointments, u, group & !object);
+    let opened = sides_of(&appointments, u, group & !object);
     if opened.first | opened.second == 0 {
         return false;
     }
-    let held = sides_of(appointments, u, object);
+    let held = sides_of(&appointments, u, object);
     if not_under(sorts, memberships, opened.second, held.second) != 0 {
         return true;
     }
@@ -85,7 +85,7 @@ fn meets(posts: Posts, set: u64) -> bool
 // Checks 10 and 11 of a PUT by a user of an object in use. Into what is no group, and where the object is under the group already, it gives
 // nothing. Else its sender gains exactly if he holds the group and not the object in one of the two ways, or a pair comes, or a permission is
 // found; and it hands over exactly if he does not own the object, and some user holds the group and not the object.
-fn put_gives(p: Policy, u: u8, x: u8, g: u8, asked: Placing) -> Verdict
+fn put_gives(p: Policy, u: u8, x: u8, g: u8, asked: Placing) -> Result<(), Refusal>
     ensures { Placed p u x g asked → result ≡ given_by p u (Put x g) }
 {
     let sorts = p.sorts;
@@ -96,44 +96,40 @@ fn put_gives(p: Policy, u: u8, x: u8, g: u8, asked: Placing) -> Verdict
     let object = asked.first;
     let group = asked.second;
     if sort_in(&sorts, g) != 1 {
-        return Verdict::Done;
+        return Ok(());
     }
     if has(object, g) {
-        return Verdict::Done;
+        return Ok(());
     }
     if posts_grow(posts, object, group) {
-        return Verdict::OwnGain;
+        return Err(Refusal::OwnGain);
     }
     if pairs_come(&sorts, &memberships, appointments, u, object, group) {
-        return Verdict::OwnGain;
+        return Err(Refusal::OwnGain);
     }
     let over = climb(&sorts, &memberships, u);
     let more = only_if(has(over, x), group & !over);
     if rules_open(rules, over, more, group & !object) {
         if is_found(put_permission(&sorts, &memberships, rules, over, x, group)) {
-            return Verdict::OwnGain;
+            return Err(Refusal::OwnGain);
         }
     }
     if posts.owner & object != 0 {
-        return Verdict::Done;
+        return Ok(());
     }
-    handed(hands_over(&sorts, appointments, object, group))
+    Refusal::HandOver.if_so(hands_over(&sorts, appointments, object, group))
 }
 
 // Checks 8 to 11 of a PUT, in their order. They are asked together, since all of them but the first go by what its object and its group are
 // under, and each of the two is climbed from once.
-pub fn put_verdict(p: Policy, u: u8, x: u8, g: u8) -> Verdict
-    ensures { result ≡ (already_so p (Put x g) ⇒ AlreadySo ∥ no_authority p u (Put x g) ⇒ NoAuthority ∥ given_by p u (Put x g)) }
+pub fn put_verdict(p: Policy, u: u8, x: u8, g: u8) -> Result<(), Refusal>
+    ensures { result ≡ (already_so p (Put x g) ⇒ Err AlreadySo ∥ no_authority p u (Put x g) ⇒ Err NoAuthority ∥ given_by p u (Put x g)) }
 {
     let asked = p.placing(u, x, g);
-    if asked.direct {
-        return Verdict::AlreadySo;
-    }
+    Refusal::AlreadySo.if_so(asked.direct)?;
     let posts = asked.posts;
     let object = asked.first;
     let group = asked.second;
-    if !(meets(posts, object) & meets(posts, group)) {
-        return Verdict::NoAuthority;
-    }
+    Refusal::NoAuthority.if_so(!(meets(posts, object) & meets(posts, group)))?;
     put_gives(p, u, x, g, asked)
 }

@@ -1,73 +1,54 @@
 -- How an answer comes about: the checks in three stages, each of which hands on what has passed.
-use Rattle.std.specs.Prelude.{Bool, true, false, List, ℕ}
+use Rattle.std.specs.Prelude.{List, ℕ, None, Result, Ok, Err}
 use Rattle.reach.specs.declared.Policy.{Policy}
 use Rattle.reach.specs.Tests.{◌⇒◌∥◌}
 use Rattle.rules.specs.declared.Request.{Request}
-use Rattle.rules.specs.declared.Verdict.{Verdict}
-use Rattle.rules.specs.declared.Verdict.TheVariants.{Done, DoneBy, Torn, Unknown, Misfit, Stranger, OffTheSheet, Absent, WrongSort}
-use Rattle.rules.specs.declared.Verdict.TheVariants.{AlreadySo, NoAuthority, OwnGain, HandOver, Orphan}
+use Rattle.rules.specs.declared.Refusal.{Refusal}
+use Rattle.rules.specs.declared.Refusal.TheVariants.{Torn, Unknown, Misfit, Stranger, OffTheSheet, Absent, WrongSort, AlreadySo}
+use Rattle.rules.specs.declared.Refusal.TheVariants.{NoAuthority, OwnGain, HandOver, Orphan}
 use Rattle.rules.specs.declared.Answer.{Answer}
 use Rattle.rules.specs.Records.{sender, request}
 use Rattle.rules.specs.Refusals.{torn, unknown, misfit, stranger, off_the_sheet, absent, wrong_sort, already_so, no_authority, own_gain}
 use Rattle.rules.specs.Refusals.{hand_over, orphan}
 use Rattle.rules.specs.Doing.{after}
-use Rattle.rules.specs.Judging.{done, accepted, judge}
+use Rattle.rules.specs.Judging.{Verdict, done, accepted, judge}
 use Rattle.gains.specs.Giving.{given_by}
-use Rattle.judge.specs.declared.Asked.{Asked}
 use Rattle.judge.specs.declared.Decision.{Decision}
-use Rattle.judge.specs.Naming.{named_by}
 use Rattle.judge.specs.Kind.{is_put}
 
--- The verdict changes the policy: it is done, and no USE.
-abbrev pub changes : Verdict → Bool
-changes Done = true
-changes (DoneBy i) = false
-changes Torn = false
-changes Unknown = false
-changes Misfit = false
-changes Stranger = false
-changes OffTheSheet = false
-changes Absent = false
-changes WrongSort = false
-changes AlreadySo = false
-changes NoAuthority = false
-changes OwnGain = false
-changes HandOver = false
-changes Orphan = false
+-- What has passed goes on to what comes next, and a refusal stays: Rust's `?`.
+abbrev pub passing : {A B : Type 0} → Result A Refusal → (A → Result B Refusal) → Result B Refusal
+passing (Ok x) next = next x
+passing (Err r) next = Err r
 
 -- Checks 1 to 7.
-abbrev pub formed_by : Policy → List ℕ → ℕ → Request → Verdict
+abbrev pub formed_by : Policy → List ℕ → ℕ → Request → Result (Unit {0}) Refusal
 formed_by p b u q =
-    torn b ⇒ Torn ∥
-    unknown b ⇒ Unknown ∥
-    misfit b ⇒ Misfit ∥
-    stranger p u ⇒ Stranger ∥
-    off_the_sheet q ⇒ OffTheSheet ∥
-    absent p q ⇒ Absent ∥
-    wrong_sort p q ⇒ WrongSort ∥
-    Done
+    torn b ⇒ Err Torn ∥
+    unknown b ⇒ Err Unknown ∥
+    misfit b ⇒ Err Misfit ∥
+    stranger p u ⇒ Err Stranger ∥
+    off_the_sheet q ⇒ Err OffTheSheet ∥
+    absent p q ⇒ Err Absent ∥
+    wrong_sort p q ⇒ Err WrongSort ∥
+    Ok tt
 
--- What follows where checks 8 and 9 have passed: a PUT is asked checks 10 and 11, which go by the same climbs; and a USE is done.
+-- What follows where checks 8 and 9 have passed: a PUT is asked checks 10 and 11, which go by the same climbs; and a USE is done by its rule.
 abbrev pub passed_by : Policy → ℕ → Request → Verdict
-passed_by p u q = is_put q ⇒ given_by p u q ∥ done p u q
+passed_by p u q = is_put q ⇒ passing (given_by p u q) (λ _. Ok None) ∥ done p u q
 
 -- Checks 8 and 9, and what follows.
 abbrev pub allowed_by : Policy → ℕ → Request → Verdict
-allowed_by p u q = already_so p q ⇒ AlreadySo ∥ no_authority p u q ⇒ NoAuthority ∥ passed_by p u q
+allowed_by p u q = already_so p q ⇒ Err AlreadySo ∥ no_authority p u q ⇒ Err NoAuthority ∥ passed_by p u q
 
 -- Checks 10 to 12, of which a PUT has none left.
-abbrev pub harmless_by : Policy → ℕ → Request → Verdict
-harmless_by p u q = is_put q ⇒ Done ∥ own_gain p u q ⇒ OwnGain ∥ hand_over p u q ⇒ HandOver ∥ orphan p q ⇒ Orphan ∥ Done
+abbrev pub harmless_by : Policy → ℕ → Request → Result (Unit {0}) Refusal
+harmless_by p u q =
+    is_put q ⇒ Ok tt ∥ own_gain p u q ⇒ Err OwnGain ∥ hand_over p u q ⇒ Err HandOver ∥ orphan p q ⇒ Err Orphan ∥ Ok tt
 
--- The record, read, what stands at the place that it names, and what the first seven checks say of it.
-abbrev pub read_of : Policy → List ℕ → Asked
-read_of p b =
-    record {
-      sender = sender b;
-      request = request b;
-      named = named_by p (request b);
-      verdict = formed_by p b (sender b) (request b);
-    }
+-- The three stages, one after the other.
+abbrev pub staged : Policy → List ℕ → ℕ → Request → Verdict
+staged p b u q = passing (formed_by p b u q) (λ _. passing (allowed_by p u q) (λ by. passing (harmless_by p u q) (λ _. Ok by)))
 
 -- A policy, and a verdict on it. A refusal hands back the policy as it was.
 abbrev pub answered : Policy → Verdict → Answer

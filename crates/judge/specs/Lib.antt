@@ -1,8 +1,4 @@
 -- How the judge's code asks its checks and puts its answer together, and what it tells of a refusal for own gain.
-pub mod Naming
-pub mod Holding
-pub mod Lending
 pub mod Kind
-pub mod Using
 pub mod Answering
 pub mod Telling

@@ -1,97 +1,84 @@
-// Checks 8 and 9, by what the sender holds over the two objects that the request is about: asked of the policy at once, and looked at here.
-// Those of a USE and of a PUT are asked elsewhere, and here they pass.
-ghost use Rattle.std.specs.Prelude.{◌≡◌};
-ghost use Rattle.judge.specs.Holding.{first_of, side_of, second_of, governs, appoints, so_already, unentitled};
+// Checks 8 and 9, by what stands at the place that a request names, and by what the sender holds over two objects: that is asked of the
+// policy at once.
+ghost use Rattle.std.specs.Prelude.{◌≡◌, ◌||◌};
+ghost use Rattle.rules.specs.Authority.{may_appoint};
+ghost use Rattle.judge.specs.Answering.{allowed_by};
 
-use crate::records::Named;
-use reach::{Held, Over};
-use rules::Request;
+use crate::using::used;
+use gains::put_verdict;
+use reach::{Appointment, Over, Policy, Post, appointment_at, rule_at};
+use rules::{Refusal, Request, Verdict};
 
-// The first of the two: the object, the group of a MAKE, A, or U. DISMISS and WITHDRAW go by the numbers that the place holds. 255 is no object.
-pub fn first_of(named: Named, q: Request) -> u8
-    ensures { result ≡ first_of named q }
-{
-    match q {
-        Request::Make { group, .. } => group,
-        Request::Put { object, .. } => object,
-        Request::Take { object, .. } => object,
-        Request::Appoint { a, .. } => a,
-        Request::Dismiss { .. } => named.appointment.a,
-        Request::Grant { users, .. } => users,
-        Request::Withdraw { .. } => named.rule.users,
-        Request::Use { .. } => 255,
-    }
-}
-
-// B of an administrator; that of the other kinds is not read.
-fn side_of(kind: u8, b: u8) -> u8
-    ensures { result ≡ side_of kind b }
-{
-    if kind == 3 { b } else { 255 }
-}
-
-// The second: the group, B, or T.
-pub fn second_of(named: Named, q: Request) -> u8
-    ensures { result ≡ second_of named q }
-{
-    match q {
-        Request::Make { .. } => 255,
-        Request::Put { group, .. } => group,
-        Request::Take { group, .. } => group,
-        Request::Appoint { kind, b, .. } => side_of(kind, b),
-        Request::Dismiss { .. } => side_of(named.appointment.kind, named.appointment.b),
-        Request::Grant { targets, .. } => targets,
-        Request::Withdraw { .. } => named.rule.targets,
-        Request::Use { .. } => 255,
-    }
-}
+// The number of no object, where there is no second one.
+const NONE: u8 = 255;
 
 // Owns or manages.
 fn governs(over: Over) -> bool
-    ensures { result ≡ governs over }
+    ensures { result ≡ (over.owned || over.managed) }
 {
     over.owned | over.managed
 }
 
-// Whether an appointment of that kind may be made, and undone: he owns A, or manages both A and B.
-fn appoints(held: Held, kind: u8) -> bool
-    ensures { result ≡ appoints held kind }
+// Whether u may make this appointment, and undo it: he owns A, or of an administrator's manages both A and B.
+#[tactic(auto, unfolding(rules::specs::Authority::may_appoint))]
+fn may_appoint(p: Policy, u: u8, w: Appointment) -> bool
+    ensures { result ≡ may_appoint p u w }
 {
-    if kind == 3 {
+    if w.kind == Post::Administrator as u8 {
+        let held = p.held(u, w.a, w.b);
         held.first.managed & held.second.managed
     } else {
-        held.first.owned
+        p.held(u, w.a, NONE).first.owned
     }
 }
 
-// Check 8 of every kind but PUT.
-pub fn already_so(named: Named, held: Held, q: Request) -> bool
-    ensures { result ≡ so_already named held q }
+// Checks 8 and 9, after those before, kind by kind: a USE that passes is done, by its rule, and of a PUT checks 10 and 11 are asked here too.
+#[tactic(auto, unfolding(rules::specs::Refusals::already_so, rules::specs::Refusals::no_authority, rules::specs::Authority::may, rules::specs::Authority::may_withdraw, reach::specs::Reach::in_use, reach::specs::Tables::sort, reach::specs::Tables::appointment, reach::specs::Tables::rule, rules::specs::Judging::done))]
+pub fn allowed(p: Policy, u: u8, q: Request) -> Verdict
+    ensures { result ≡ allowed_by p u q }
 {
     match q {
-        Request::Make { .. } => named.filled,
-        Request::Put { .. } => false,
-        Request::Take { .. } => !held.direct,
-        Request::Appoint { .. } => named.filled,
-        Request::Dismiss { .. } => false,
-        Request::Grant { .. } => named.filled,
-        Request::Withdraw { .. } => false,
-        Request::Use { .. } => false,
+        Request::Make { place, group, .. } => {
+            Refusal::AlreadySo.if_so(p.objects().in_use(place))?;
+            Refusal::NoAuthority.if_so(!governs(p.held(u, group, NONE).first))?;
+        }
+        Request::Put { object, group } => put_verdict(p, u, object, group)?,
+        Request::Take { object, group } => {
+            let held = p.held(u, object, group);
+            Refusal::AlreadySo.if_so(!held.direct)?;
+            Refusal::NoAuthority.if_so(!(governs(held.first) & governs(held.second)))?;
+        }
+        Request::Appoint {
+            place,
+            kind,
+            holder,
+            a,
+            b,
+        } => {
+            let stands = appointment_at(&p.appointments, place).standing();
+            Refusal::AlreadySo.if_so(stands)?;
+            let w = Appointment { kind, holder, a, b };
+            Refusal::NoAuthority.if_so(!may_appoint(p, u, w))?;
+        }
+        Request::Dismiss { place } => {
+            let w = appointment_at(&p.appointments, place);
+            Refusal::NoAuthority.if_so(!may_appoint(p, u, w))?;
+        }
+        Request::Grant {
+            place,
+            users,
+            targets,
+            ..
+        } => {
+            Refusal::AlreadySo.if_so(rule_at(&p.rules, place).used)?;
+            Refusal::NoAuthority.if_so(!p.held(u, users, targets).pair)?;
+        }
+        Request::Withdraw { place } => {
+            let rule = rule_at(&p.rules, place);
+            let held = p.held(u, rule.users, rule.targets);
+            Refusal::NoAuthority.if_so(!(held.pair | held.second.owned))?;
+        }
+        Request::Use { target, operation } => return used(p, u, target, operation),
     }
-}
-
-// Check 9 of every kind but PUT and USE.
-pub fn no_authority(named: Named, held: Held, q: Request) -> bool
-    ensures { result ≡ unentitled named held q }
-{
-    match q {
-        Request::Make { .. } => !governs(held.first),
-        Request::Put { .. } => false,
-        Request::Take { .. } => !(governs(held.first) & governs(held.second)),
-        Request::Appoint { kind, .. } => !appoints(held, kind),
-        Request::Dismiss { .. } => !appoints(held, named.appointment.kind),
-        Request::Grant { .. } => !held.pair,
-        Request::Withdraw { .. } => !(held.pair | held.second.owned),
-        Request::Use { .. } => false,
-    }
+    Ok(None)
 }

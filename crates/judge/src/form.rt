@@ -1,17 +1,15 @@
-// Checks 1 to 7: of the bytes, of the sender, and of what the request names. Those that ask the policy are lent the tables
-// that they read, and promise, of every policy with those tables, what the rules say of that policy.
+// Checks 1 to 7: of the bytes, of the sender, and of what the request names.
 ghost use Rattle.std.specs.Prelude.{◌≡◌, not, eqb, ltb};
-ghost use Rattle.reach.specs.declared.Policy.{Policy};
 ghost use Rattle.reach.specs.Tests.{◌⇒◌∥◌};
 ghost use Rattle.rules.specs.Refusals.{torn, unknown, misfit, stranger, one_to_three, off_the_sheet, absent, wrong_sort};
-ghost use Rattle.judge.specs.Naming.{named_by};
 
-use crate::records::{Named, length_of};
+use crate::records::length_of;
 use frame::{kind_field, length_field};
-use reach::sort_in;
+use reach::{Policy, Post, appointment_at, rule_at};
 use rules::Request;
 
 // Check 1.
+#[tactic(auto, unfolding(rules::specs::Refusals::torn))]
 pub fn torn(b: &[u8]) -> bool
     ensures { result ≡ torn b.now }
 {
@@ -20,14 +18,15 @@ pub fn torn(b: &[u8]) -> bool
 }
 
 // Check 2.
+#[tactic(auto, unfolding(rules::specs::Refusals::unknown))]
 pub fn unknown(b: &[u8]) -> bool
     ensures { result ≡ unknown b.now }
 {
-    let kind = kind_field(b);
-    !((1 <= kind) & (kind <= 8))
+    !(1..=8).contains(&kind_field(b))
 }
 
 // Check 3.
+#[tactic(auto, unfolding(rules::specs::Refusals::misfit))]
 pub fn misfit(b: &[u8]) -> bool
     ensures { result ≡ misfit b.now }
 {
@@ -36,27 +35,32 @@ pub fn misfit(b: &[u8]) -> bool
 }
 
 // Check 4.
-pub fn stranger(sorts: &[u8; 64], u: u8) -> bool
-    ensures { (p : Policy) → p.sorts ≡ sorts.now → result ≡ stranger p u }
+pub fn stranger(p: &Policy, u: u8) -> bool
+    ensures { result ≡ stranger p.now u }
 {
-    sort_in(sorts, u) != 2
+    !p.objects().is_user(u)
 }
 
 // Whether a sort, or the kind of an appointment, is one of the three.
 fn one_to_three(n: u8) -> bool
     ensures { result ≡ one_to_three n }
 {
-    (1 <= n) & (n <= 3)
+    (1..=3).contains(&n)
 }
 
 // Whether B is off: past the table for an administrator, and not 0 for the other kinds.
 fn b_off(kind: u8, b: u8) -> bool
     ensures { result ≡ (eqb kind 3 ⇒ ltb 63 b ∥ not (eqb b 0)) }
 {
-    if kind == 3 { 63 < b } else { b != 0 }
+    if kind == Post::Administrator as u8 {
+        63 < b
+    } else {
+        b != 0
+    }
 }
 
 // Check 5.
+#[tactic(auto, unfolding(rules::specs::Refusals::off_the_sheet))]
 pub fn off_the_sheet(q: Request) -> bool
     ensures { result ≡ off_the_sheet q }
 {
@@ -84,61 +88,59 @@ pub fn off_the_sheet(q: Request) -> bool
 }
 
 // Check 6.
-pub fn absent(sorts: &[u8; 64], named: Named, q: Request) -> bool
-    ensures { (p : Policy) → p.sorts ≡ sorts.now → named ≡ named_by p q → result ≡ absent p q }
+#[tactic(auto, unfolding(rules::specs::Refusals::absent, reach::specs::Reach::in_use, reach::specs::Tables::sort, reach::specs::Tables::appointment, reach::specs::Tables::rule))]
+pub fn absent(p: &Policy, q: Request) -> bool
+    ensures { result ≡ absent p.now q }
 {
+    let objects = p.objects();
     match q {
-        Request::Make { place, sort, group } => sort_in(sorts, group) == 0,
-        Request::Put { object, group } => (sort_in(sorts, object) == 0)
-            | (sort_in(sorts, group) == 0),
-        Request::Take { object, group } => (sort_in(sorts, object) == 0)
-            | (sort_in(sorts, group) == 0),
+        Request::Make { group, .. } => !objects.in_use(group),
+        Request::Put { object, group } => !objects.in_use(object) | !objects.in_use(group),
+        Request::Take { object, group } => !objects.in_use(object) | !objects.in_use(group),
         Request::Appoint {
-            place,
             kind,
             holder,
             a,
             b,
-        } => (sort_in(sorts, holder) == 0)
-            | (sort_in(sorts, a) == 0)
-            | ((kind == 3) & (sort_in(sorts, b) == 0)),
-        Request::Dismiss { place } => !named.appointment.standing(),
-        Request::Grant {
-            place,
-            users,
-            targets,
-            operations,
-        } => (sort_in(sorts, users) == 0) | (sort_in(sorts, targets) == 0),
-        Request::Withdraw { place } => !named.rule.used,
-        Request::Use { target, operation } => sort_in(sorts, target) == 0,
+            ..
+        } => {
+            !objects.in_use(holder)
+                | !objects.in_use(a)
+                | ((kind == Post::Administrator as u8) & !objects.in_use(b))
+        }
+        Request::Dismiss { place } => !appointment_at(&p.appointments, place).standing(),
+        Request::Grant { users, targets, .. } => !objects.in_use(users) | !objects.in_use(targets),
+        Request::Withdraw { place } => !rule_at(&p.rules, place).used,
+        Request::Use { target, .. } => !objects.in_use(target),
     }
 }
 
 // Check 7.
-pub fn wrong_sort(sorts: &[u8; 64], q: Request) -> bool
-    ensures { (p : Policy) → p.sorts ≡ sorts.now → result ≡ wrong_sort p q }
+#[tactic(auto, unfolding(rules::specs::Refusals::wrong_sort, reach::specs::Tables::sort))]
+pub fn wrong_sort(p: &Policy, q: Request) -> bool
+    ensures { result ≡ wrong_sort p.now q }
 {
+    let objects = p.objects();
     match q {
-        Request::Make { place, sort, group } => sort_in(sorts, group) != 1,
-        Request::Put { object, group } => sort_in(sorts, group) != 1,
-        Request::Take { object, group } => sort_in(sorts, group) != 1,
+        Request::Make { group, .. } => !objects.is_group(group),
+        Request::Put { group, .. } => !objects.is_group(group),
+        Request::Take { group, .. } => !objects.is_group(group),
         Request::Appoint {
-            place,
             kind,
             holder,
             a,
             b,
-        } => (sort_in(sorts, a) != 1)
-            | ((kind == 3) & (sort_in(sorts, b) != 1))
-            | (sort_in(sorts, holder) != 2),
-        Request::Dismiss { place } => false,
-        Request::Grant {
-            place,
-            users,
-            targets,
-            operations,
-        } => (sort_in(sorts, users) != 1) | (sort_in(sorts, targets) != 1),
-        Request::Withdraw { place } => false,
-        Request::Use { target, operation } => sort_in(sorts, target) != 3,
+            ..
+        } => {
+            !objects.is_group(a)
+                | ((kind == Post::Administrator as u8) & !objects.is_group(b))
+                | !objects.is_user(holder)
+        }
+        Request::Dismiss { .. } => false,
+        Request::Grant { users, targets, .. } => {
+            !objects.is_group(users) | !objects.is_group(targets)
+        }
+        Request::Withdraw { .. } => false,
+        Request::Use { target, .. } => !objects.is_target(target),
     }
 }

@@ -9,20 +9,8 @@ pub fn code_of(v: Verdict) -> u8
     ensures { result ≡ code_of v }
 {
     match v {
-        Verdict::Done => 0,
-        Verdict::DoneBy(_) => 0,
-        Verdict::Torn => 1,
-        Verdict::Unknown => 2,
-        Verdict::Misfit => 3,
-        Verdict::Stranger => 4,
-        Verdict::OffTheSheet => 5,
-        Verdict::Absent => 6,
-        Verdict::WrongSort => 7,
-        Verdict::AlreadySo => 8,
-        Verdict::NoAuthority => 9,
-        Verdict::OwnGain => 10,
-        Verdict::HandOver => 11,
-        Verdict::Orphan => 12,
+        Ok(_) => 0,
+        Err(refusal) => u8::from(refusal),
     }
 }
 
@@ -31,19 +19,8 @@ pub fn cited_of(v: Verdict) -> u8
     ensures { result ≡ cited_of v }
 {
     match v {
-        Verdict::Done => 255,
-        Verdict::DoneBy(place) => place,
-        Verdict::Torn => 255,
-        Verdict::Unknown => 255,
-        Verdict::Misfit => 255,
-        Verdict::Stranger => 255,
-        Verdict::OffTheSheet => 255,
-        Verdict::Absent => 255,
-        Verdict::WrongSort => 255,
-        Verdict::AlreadySo => 255,
-        Verdict::NoAuthority => 255,
-        Verdict::OwnGain => 255,
-        Verdict::HandOver => 255,
-        Verdict::Orphan => 255,
+        Ok(Some(place)) => place,
+        Ok(None) => 255,
+        Err(_) => 255,
     }
 }

@@ -9,12 +9,13 @@ use lib.Dec.{ltb}
 use lib.ListN.{length, take}
 use lib.Seq.{take_all}
 use borrow.Author.Tests.{lt-ltb, ltb-false}
+use Rattle.std.specs.Prelude.{Err}
 use Rattle.reach.specs.declared.Policy.{Policy}
 use Rattle.reach.specs.Tests.{◌⇒◌∥◌}
 use Rattle.reach.specs.Tables.{initial}
 use Rattle.frame.specs.Reading.{records_from, torn_from}
 use Rattle.frame.proofs.Records.{records_few}
-use Rattle.rules.specs.declared.Verdict.TheVariants.{Torn}
+use Rattle.rules.specs.declared.Refusal.TheVariants.{Torn}
 use Rattle.rules.specs.Judging.{judge, numbers_of, answers}
 use Rattle.rules.proofs.Table.{answers_none, answers_next}
 use Rattle.rules.proofs.Bounded.{code_bounded, cited_bounded}
@@ -24,7 +25,7 @@ use Rattle.text.proofs.Lengths.{Bounded, lines_fit, torn_lines_fit}
 use Rattle.text.proofs.Writing.{printed_all}
 
 -- The numbers of a torn place are those of the verdict torn.
-pub torn_numbers : torn_place ≡ numbers_of Torn
+pub torn_numbers : torn_place ≡ numbers_of (Err Torn)
 torn_numbers = refl
 
 -- The answers of a list are bounded, and as many as its records.

@@ -7,7 +7,7 @@ use native.Mathlib.Omega.{arith}
 use lib.ListN.{get_or}
 use Rattle.reach.specs.declared.Policy.{Policy}
 use Rattle.reach.specs.declared.Appointment.{Appointment}
-use Rattle.reach.specs.declared.Place.TheVariants.{At, Nothing}
+use Rattle.std.specs.Prelude.{Option, None}
 use Rattle.reach.specs.Words.{bit, has}
 use Rattle.reach.specs.Tests.{some, Some, Decides, ◌⇒◌∥◌, lowest}
 use Rattle.reach.specs.Tables.{counted, sort, stored, appointment, standing, rule, view}
@@ -112,12 +112,12 @@ orphaned_decides p =
 -- ---- The place of a rule that permits
 
 module _ (p : Policy) (u k x : ℕ) where
-  pub permitting_not : askable p u k x ≡ false → Nothing ≡ permitting p u k x
+  pub permitting_not : askable p u k x ≡ false → None ≡ permitting p u k x
   unfolding permitting
   permitting_not e = rw e
 
   -- Who is permitted it is so by the lowest of the places that permit it.
-  pub permitted_lowest : permitted p u k x ≡ true → Some 64 (λ i. (permitting p u k x ≡ At i) × LowestAt 64 (permits_by p u k x) i)
+  pub permitted_lowest : permitted p u k x ≡ true → Some 64 (λ i. (permitting p u k x ≡ Option.Some i) × LowestAt 64 (permits_by p u k x) i)
   unfolding permitted permitting
   permitted_lowest e =
       let a : (askable p u k x ≡ true) × (some 64 (permits_by p u k x) ≡ true) = simp and-eq-true_iff at e in
@@ -133,16 +133,16 @@ module _ (p : Policy) (u k x : ℕ) where
       (lowest_cases 64 (permits_by p u k x))
 
   -- The answer at a place is a permission, and none is none.
-  pub permitted_nothing : permitting p u k x ≡ Nothing → permitted p u k x ≡ false
+  pub permitted_nothing : permitting p u k x ≡ None → permitted p u k x ≡ false
   permitted_nothing e =
       fails (permitted p u k x) (decides_true _)
       (λ f. let w = permitted_lowest f in let q = w.at.0 in let z : ◌≡◌ {A = ℕ} 0 1 = cc in omega arith)
 
-  pub permitted_at : (i : ℕ) → permitting p u k x ≡ At i → permitted p u k x ≡ true
+  pub permitted_at : (i : ℕ) → permitting p u k x ≡ Option.Some i → permitted p u k x ≡ true
   unfolding permitted permitting
   permitted_at i e = go (askable p u k x) e (lowest_cases 64 (permits_by p u k x))
     where
-      go : (t : Bool) → (t ⇒ lowest 64 (permits_by p u k x) ∥ Nothing) ≡ At i
+      go : (t : Bool) → (t ⇒ lowest 64 (permits_by p u k x) ∥ None) ≡ Option.Some i
           → (some 64 (permits_by p u k x) ≡ false) ⊎ Some 64 (LowestAt 64 (permits_by p u k x))
           → (t && some 64 (permits_by p u k x)) ≡ true
       go true f (inl n) =

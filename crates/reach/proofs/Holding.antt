@@ -3,25 +3,18 @@ use mathlib.Core.Path.{◌≡◌, refl, sym, ◌∙◌}
 use mathlib.Core.Bool.{Bool, true, false, not, ◌&&◌}
 use Prim.Native.Nat.{ℕ}
 use lib.Bits.{bit_and}
-use lib.Dec.{eqb, ltb}
+use lib.Dec.{eqb}
 use lib.ListN.{get_or}
-use borrow.Author.Tests.{eqb-true, eqb-false}
 use Rattle.reach.specs.declared.Policy.{Policy}
-use Rattle.reach.specs.Words.{has, SetOf}
+use Rattle.reach.specs.Words.{SetOf}
 use Rattle.reach.specs.Tests.{Some, Decides}
-use Rattle.reach.specs.Tables.{sort_in, sort, stored, no_appointment, view}
-use Rattle.reach.specs.Reach.{User, in_use, direct}
+use Rattle.reach.specs.Tables.{no_appointment, view}
+use Rattle.reach.specs.Reach.{User, direct}
 use Rattle.reach.specs.Privileges.{owner, manager, owns, manages, administers}
 use Rattle.reach.specs.Asking.{UnderBy, AppointedOver, CoversPair, held_of}
-use Rattle.reach.proofs.Testing.{decides_same, fails}
+use Rattle.reach.proofs.Testing.{decides_same, fails, refuted}
 use Rattle.reach.proofs.Deciding.{holds_decides, administers_decides}
-use Rattle.reach.proofs.Meeting.{user_of_sort, sort_of_user, climbed, over_held, holds_meets, pair_covered}
-
--- Whether x is directly in y, read of the two sorts and of the row of x.
-pub direct_by : (p : Policy) (x y a b w : ℕ) {t : Bool} → a ≡ sort_in p.sorts x → b ≡ sort_in p.sorts y
-    → w ≡ get_or p.memberships x 0 → t ≡ has w y → (ltb 0 a && eqb b 1 && t) ≡ direct p x y
-unfolding direct in_use stored sort
-direct_by p x y a b w i j k e = rw (e, i, j, k)
+use Rattle.reach.proofs.Meeting.{climbed, over_held, holds_meets, pair_covered}
 
 module _ (p : Policy) (u x y : ℕ) where
   -- The answers, each that of its question.
@@ -85,27 +78,17 @@ module _ (p : Policy) (u x y : ℕ) where
       (pair_covered p user over _ other covered)
       e
 
-  -- So it is whoever asks: the sort of u tells which.
-  pub held_by : {s o m a b : ℕ} {c d : Bool} → s ≡ sort_in p.sorts u
+  -- So it is whoever asks: the test of u tells which.
+  pub held_by : {t : Bool} {o m a b : ℕ} {c d : Bool} → Decides t (User (view p) u)
       → SetOf o (AppointedOver p.appointments owner u) → SetOf m (AppointedOver p.appointments manager u)
       → SetOf a (λ g. UnderBy p.sorts p.memberships x g) → SetOf b (λ g. UnderBy p.sorts p.memberships y g)
       → Decides c (Some 32 (λ i. CoversPair (get_or p.appointments i no_appointment) u a b)) → d ≡ direct p x y
       → record {
-        first = record { owned = eqb s 2 && not (eqb (bit_and o a) 0); managed = eqb s 2 && not (eqb (bit_and m a) 0) };
-        second = record { owned = eqb s 2 && not (eqb (bit_and o b) 0); managed = eqb s 2 && not (eqb (bit_and m b) 0) };
-        pair = eqb s 2 && c;
+        first = record { owned = t && not (eqb (bit_and o a) 0); managed = t && not (eqb (bit_and m a) 0) };
+        second = record { owned = t && not (eqb (bit_and o b) 0); managed = t && not (eqb (bit_and m b) 0) };
+        pair = t && c;
         direct = d;
       }
       ≡ held_of p u x y
-  held_by {s} {o} {m} {a} {b} {c} {d} e h k l r covered f = go (eqb s 2) refl
-    where
-      go : (t : Bool) → eqb s 2 ≡ t
-          → record {
-            first = record { owned = t && not (eqb (bit_and o a) 0); managed = t && not (eqb (bit_and m a) 0) };
-            second = record { owned = t && not (eqb (bit_and o b) 0); managed = t && not (eqb (bit_and m b) 0) };
-            pair = t && c;
-            direct = d;
-          }
-          ≡ held_of p u x y
-      go true i = held_some (user_of_sort p u (sym e ∙ eqb-true _ _ i)) h k l r covered f
-      go false i = held_none (λ v. eqb-false _ _ i (e ∙ sort_of_user p u v)) f
+  held_by {t = true} e h k l r covered f = held_some (e.sound refl) h k l r covered f
+  held_by {t = false} e h k l r covered f = held_none (refuted e refl) f

@@ -9,14 +9,14 @@ use lib.Dec.{eqb, ltb}
 use lib.ListN.{get_or}
 use Rattle.reach.specs.declared.Policy.{Policy}
 use Rattle.reach.specs.declared.Posts.{Posts}
-use Rattle.reach.specs.declared.Place.{Place}
+use Rattle.std.specs.Prelude.{Option}
 use Rattle.reach.specs.Words.{bit, SetOf, Meet}
 use Rattle.reach.specs.Tests.{lowest_or, lowest, Some, Decides}
-use Rattle.reach.specs.Tables.{sort_in, sort, no_appointment, no_rule, appointment, rule, view}
-use Rattle.reach.specs.Reach.{InUse, Group, User, Target, Under, under}
+use Rattle.reach.specs.Tables.{sort_in, sort, stored, no_appointment, no_rule, appointment, rule, view}
+use Rattle.reach.specs.Reach.{InUse, Group, User, Target, Under, in_use, direct, under}
 use Rattle.reach.specs.Privileges.{Holds, Administers, Permitted, permits_by, askable, administers, permitting}
-use Rattle.reach.specs.Asking.{UnderBy, AppointedOver, PostsIn, HeldOver, PostsOf, CoversPair, HasB, HasFirst, covered_by, HasT}
-use Rattle.reach.proofs.Testing.{decides_as, decides_eqb, decides_not, decides_same, some_map}
+use Rattle.reach.specs.Asking.{reach_of, UnderBy, AppointedOver, PostsIn, HeldOver, PostsOf, CoversPair, HasB, HasFirst, covered_by, HasT}
+use Rattle.reach.proofs.Testing.{decides_as, decides_at, decides_eqb, decides_not, decides_same, some_map}
 use Rattle.reach.proofs.WordSets.{set_as, set_none, set_mask, has_is, decides_nonempty}
 use Rattle.reach.proofs.Reaching.{under_upper}
 use Rattle.reach.proofs.Chains.{in_use_below, under_decides}
@@ -68,11 +68,20 @@ module _ (p : Policy) where
   pub posts_of_none : {u : ℕ} → (User (view p) u → ⊥) → PostsOf (view p) u (record { owner = 0; manager = 0 })
   posts_of_none n = record { owner = set_none (λ a w. n w.user); manager = set_none (λ a w. n w.user) }
 
+  -- A question to the lent tables is the policy's own.
+  pub user_by : (u : ℕ) {t : Bool} → t ≡ eqb (sort_in p.sorts u) 2 → Decides t (User (view p) u)
+  unfolding sort
+  user_by u e = decides_at e (decides_eqb _ 2)
+
+  pub direct_by : (x g : ℕ) → direct (reach_of p.sorts p.memberships) x g ≡ direct p x g
+  unfolding direct in_use stored sort
+  direct_by x g = refl
+
   -- The tests of who may be permitted anything are the rules' own.
-  pub askable_by : (u k x a b : ℕ) → a ≡ sort_in p.sorts u → b ≡ sort_in p.sorts x
-      → (eqb a 2 && eqb b 3 && ltb k 8) ≡ askable p u k x
+  pub askable_by : (u k x : ℕ) {a b : Bool} → a ≡ eqb (sort_in p.sorts u) 2 → b ≡ eqb (sort_in p.sorts x) 3
+      → (a && b && ltb k 8) ≡ askable p u k x
   unfolding askable sort
-  askable_by u k x a b d e = rw (d, e)
+  askable_by u k x d e = rw (d, e)
 
   -- All that is under the one object g.
   pub one_below : {g one r : ℕ} → SetOf one (λ y. (y < 64) × (g ≡ y))
@@ -271,7 +280,7 @@ module _ (p : Policy) where
 
   -- ---- Permissions
 
-  lowest_same : (n : ℕ) (o : Place) (f g : ℕ → Bool) → ((i : ℕ) → f i ≡ g i) → lowest_or o n f ≡ lowest_or o n g
+  lowest_same : (n : ℕ) (o : Option ℕ) (f g : ℕ → Bool) → ((i : ℕ) → f i ≡ g i) → lowest_or o n f ≡ lowest_or o n g
   unfolding lowest_or
   lowest_same zero o f g e = refl
   lowest_same (suc n) o f g e = rw (e n) (lowest_same n _ f g e)

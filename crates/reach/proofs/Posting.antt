@@ -3,6 +3,7 @@ use mathlib.Core.Path.{◌≡◌, refl, sym, ap, ◌∙◌, subst}
 use mathlib.Core.Bool.{Bool, true}
 use mathlib.Core.List.{List}
 use Prim.Native.Nat.{ℕ, ◌<◌}
+use lib.Dec.{eqb}
 use lib.ListN.{get_or}
 use Rattle.reach.specs.declared.Appointment.{Appointment}
 use Rattle.reach.specs.Words.{bit, SetOf}
@@ -10,6 +11,7 @@ use Rattle.reach.specs.Tests.{Some, Decides}
 use Rattle.reach.specs.Tables.{sort_in, no_appointment}
 use Rattle.reach.specs.Privileges.{owner, administrator}
 use Rattle.reach.specs.Asking.{HasA, AppointedOver, CoversPair, HasB, HasFirst, OwnersA}
+use Rattle.reach.proofs.Testing.{decides_at, decides_eqb}
 use Rattle.reach.proofs.WordSets.{set_as}
 
 -- The number a of an object is the A of the appointment at place j, which is of that kind and which u holds.
@@ -30,15 +32,15 @@ posted t y s d =
     (λ a v. (v.1.0, record { is_kind = v.0; is_holder = refl; is_a = v.1.1 }))
     (λ a v. (v.1.is_kind, (v.0, v.1.is_a)))
 
--- The A of an owner's appointment, where its holder, whose sort is x, is a user.
-pub owner_posted : {s y x : ℕ} {sorts : List ℕ} {w : Appointment} (t : Bool) → w.kind ≡ owner → x ≡ sort_in sorts w.holder
-    → SetOf y (λ a. (a < 64) × (w.a ≡ a)) → SetOf s (λ a. (t ≡ true) × (bit y a ≡ 1)) → Decides t (x ≡ 2)
+-- The A of an owner's appointment, where its holder is a user.
+pub owner_posted : {s y : ℕ} {sorts : List ℕ} {w : Appointment} (t : Bool) → w.kind ≡ owner → t ≡ eqb (sort_in sorts w.holder) 2
+    → SetOf y (λ a. (a < 64) × (w.a ≡ a)) → SetOf s (λ a. (t ≡ true) × (bit y a ≡ 1))
     → SetOf s (λ a. (a < 64) × OwnersA sorts w a)
-owner_posted t k e y s d =
+owner_posted t k e y s =
     set_as
-    (just_if t y s d)
-    (λ a v. (v.1.0, record { is_kind = k; is_user = sym e ∙ v.0; is_a = v.1.1 }))
-    (λ a v. (e ∙ v.1.is_user, (v.0, v.1.is_a)))
+    (just_if t y s (decides_at e (decides_eqb _ 2)))
+    (λ a v. (v.1.0, record { is_kind = k; is_user = v.0; is_a = v.1.1 }))
+    (λ a v. (v.1.is_user, (v.0, v.1.is_a)))
 
 -- A side of one administrator's appointment, where its other side is in the set.
 pub first_posted : {s y set other : ℕ} {w : Appointment} (t : Bool) → SetOf y (λ a. (a < 64) × (w.a ≡ a))

@@ -8,13 +8,18 @@ use Prim.Native.Nat.{ℕ, ◌≤◌, ◌<◌, zero-le}
 use native.Mathlib.Decide.{dec_lt}
 use native.Mathlib.Omega.{arith}
 use lib.Dec.{eqb, leb, ltb}
-use lib.ListN.{get_or}
-use borrow.Author.Tests.{eqb-true, eq-eqb, le-leb, leb-true, lt-ltb}
+use lib.ListN.{length, get_or}
+use borrow.Author.Tests.{eqb-true, eq-eqb, le-leb, leb-true, lt-ltb, le-ltb}
+use Rattle.std.specs.Prelude.{Option, Some, None, is_some}
 use Rattle.reach.specs.declared.Policy.{Policy}
+use Rattle.reach.specs.declared.Sort.{Sort}
+use Rattle.reach.specs.declared.Post.{Post}
+use Rattle.reach.specs.declared.Post.TheVariants.{Owner, Manager, Administrator}
 use Rattle.reach.specs.Tests.{◌⇒◌∥◌, Decides}
-use Rattle.reach.specs.Tables.{counted, sort_in, sort, view}
+use Rattle.reach.specs.Tables.{counted, sort_number, post_number, sort_in, sort, view}
 use Rattle.reach.specs.Reach.{InUse, Group, User, Target}
 use Rattle.reach.specs.Words.{SetOf}
+use Rattle.reach.proofs.Lists.{get_d_past}
 use Rattle.reach.proofs.Chains.{in_use_below}
 use Rattle.reach.proofs.WordSets.{set_as}
 
@@ -36,6 +41,27 @@ counted_le n = ⊎_elim (λ e. omega (arith, e)) (λ w. omega (arith, w.0, w.1))
 
 pub counted_unknown : (n : ℕ) → 3 < n → counted n ≡ 0
 counted_unknown n l = ⊎_elim (λ e. e) (λ w. absurd (omega (arith, w.1, l))) (counted_cases n)
+
+-- Some sort is a number above 0, and some post too.
+pub some_sort : (o : Option Sort) → is_some o ≡ ltb 0 (sort_number o)
+some_sort None = refl
+some_sort (Some Sort.Group) = refl
+some_sort (Some Sort.User) = refl
+some_sort (Some Sort.Target) = refl
+
+pub some_post : (o : Option Post) → is_some o ≡ ltb 0 (post_number o)
+some_post None = refl
+some_post (Some Owner) = refl
+some_post (Some Manager) = refl
+some_post (Some Administrator) = refl
+
+-- On a table of 64 bytes the sort is the byte at its place, as it counts; past its end there is none.
+pub sort_in_is : (l : List ℕ) (x : ℕ) → length l ≡ 64 → counted (get_or l x 0) ≡ sort_in l x
+sort_in_is l x e =
+    elim (dec_lt x 64) [
+      | yes k ↦ rw (lt-ltb x 64 k)
+      | no n ↦ rw (le-ltb x 64 (omega arith), get_d_past l x 0 (omega (arith, e, n)), counted_known 0 (omega arith))
+    ]
 
 -- The sort of an object is read of the table of sorts alone.
 pub sort_is : (p : Policy) (x : ℕ) → sort_in p.sorts x ≡ sort p x

@@ -10,8 +10,7 @@ use native.Mathlib.Numerals.{add-one}
 use native.Mathlib.Omega.{arith}
 use lib.Dec.{eqb, ltb}
 use borrow.Author.Tests.{eqb-true, eq-eqb, ltb-true, lt-ltb}
-use Rattle.reach.specs.declared.Place.{Place}
-use Rattle.reach.specs.declared.Place.TheVariants.{At, Nothing}
+use Rattle.std.specs.Prelude.{Option, None}
 use Rattle.reach.specs.Tests.{◌⇒◌∥◌, some, lowest_or, lowest, Some, Decides}
 
 -- ---- What a test decides
@@ -146,7 +145,7 @@ some_found n t i l e = (decides_some n t (λ j. t j ≡ true) (λ j k. decides_t
 
 -- ---- The lowest
 
-lowest_other : (other : Place) (n : ℕ) (t : ℕ → Bool) → some n t ≡ false → lowest_or other n t ≡ other
+lowest_other : (other : Option ℕ) (n : ℕ) (t : ℕ → Bool) → some n t ≡ false → lowest_or other n t ≡ other
 unfolding some lowest_or
 lowest_other other zero t e = refl
 lowest_other other (suc n) t e =
@@ -155,26 +154,26 @@ lowest_other other (suc n) t e =
     let here : t n ≡ false = fails (t n) (decides_true _) (λ s. refuted f e (inr s)) in
     rw here (lowest_other other n t low)
 
-pub lowest_none : (n : ℕ) (t : ℕ → Bool) → some n t ≡ false → lowest n t ≡ Nothing
-lowest_none n t e = lowest_other Nothing n t e
+pub lowest_none : (n : ℕ) (t : ℕ → Bool) → some n t ≡ false → lowest n t ≡ None
+lowest_none n t e = lowest_other None n t e
 
-lowest_at : (other : Place) (n : ℕ) (t : ℕ → Bool) (i : ℕ) → i < n → some i t ≡ false → t i ≡ true → lowest_or other n t ≡ At i
+lowest_at : (other : Option ℕ) (n : ℕ) (t : ℕ → Bool) (i : ℕ) → i < n → some i t ≡ false → t i ≡ true → lowest_or other n t ≡ Option.Some i
 unfolding lowest_or
 lowest_at other zero t i l z e = absurd (not-suc-le-zero l)
-lowest_at other (suc n) t i l z e = go (λ k. lowest_at (t n ⇒ At n ∥ other) n t i k z e) (dec_lt i n)
+lowest_at other (suc n) t i l z e = go (λ k. lowest_at (t n ⇒ Option.Some n ∥ other) n t i k z e) (dec_lt i n)
   where
-    go : (i < n → lowest_or (t n ⇒ At n ∥ other) n t ≡ At i) → Dec (i < n) → lowest_or (t n ⇒ At n ∥ other) n t ≡ At i
+    go : (i < n → lowest_or (t n ⇒ Option.Some n ∥ other) n t ≡ Option.Some i) → Dec (i < n) → lowest_or (t n ⇒ Option.Some n ∥ other) n t ≡ Option.Some i
     go ih (yes k) = ih k
     go ih (no k) =
         let q : n ≡ i = omega arith in
         subst
-        (λ (j : ℕ). lowest_or (t j ⇒ At j ∥ other) j t ≡ At i)
+        (λ (j : ℕ). lowest_or (t j ⇒ Option.Some j ∥ other) j t ≡ Option.Some i)
         (sym q)
-        (rw e (lowest_other (At i) i t z))
+        (rw e (lowest_other (Option.Some i) i t z))
 
 -- One that is found with nothing found below it is the lowest.
-pub lowest_found : (n : ℕ) (t : ℕ → Bool) (i : ℕ) → i < n → some i t ≡ false → t i ≡ true → lowest n t ≡ At i
-lowest_found n t i l z e = lowest_at Nothing n t i l z e
+pub lowest_found : (n : ℕ) (t : ℕ → Bool) (i : ℕ) → i < n → some i t ≡ false → t i ≡ true → lowest n t ≡ Option.Some i
+lowest_found n t i l z e = lowest_at None n t i l z e
 
 -- Either none passes, or one passes with none below it.
 pub record LowestAt (n : ℕ) (t : ℕ → Bool) (i : ℕ) : Type 0 where

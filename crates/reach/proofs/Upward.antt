@@ -8,6 +8,7 @@ use Prim.Native.Nat.{ℕ, ◌+◌, ◌-◌, ◌*◌, ◌%◌, ◌^◌, ◌≤◌
 use native.Mathlib.Decide.{ℕ_discrete}
 use native.Mathlib.Omega.{arith}
 use lib.Bits.{bit_and, bit_or, or_lt, or_add_and, and_le_r}
+use lib.Dec.{ltb}
 use lib.ListN.{get_or}
 use borrow.Author.Tests.{eqb-true, eq-eqb}
 use Rattle.reach.specs.declared.Policy.{Policy}
@@ -17,6 +18,7 @@ use Rattle.reach.specs.Reach.{InUse, Group, Direct, Under, itself, up}
 use Rattle.reach.specs.Tests.{Decides}
 use Rattle.reach.specs.Asking.{reach_of, UnderBy}
 use Rattle.reach.proofs.Bits.{bit_two, bit_clash, bit_none, or_bit, bit_of_or}
+use Rattle.reach.proofs.Testing.{decides_at, decides_ltb}
 use Rattle.reach.proofs.WordSets.{set_bits, set_at, set_or, set_mask, set_not, set_one, set_below, has_decides}
 use Rattle.reach.proofs.Reaching.{group_in_use, under_trans, under_upper}
 use Rattle.reach.proofs.Frames.{under_same}
@@ -51,13 +53,9 @@ row_of_direct p y h d = (has_decides (get_or p.memberships y 0) h).sound d.is_st
 
 module _ (s m : List ℕ) where
   -- The object is in use, or not, by its sort.
-  pub in_use_by : (x : ℕ) → (sort_in s x ≡ 0 → ⊥) → InUse (view (reach_of s m)) x
+  pub used_by : (x : ℕ) {t : Bool} → t ≡ ltb 0 (sort_in s x) → Decides t (InUse (view (reach_of s m)) x)
   unfolding sort
-  in_use_by x n = omega (arith, n)
-
-  pub in_use_not : (x : ℕ) → sort_in s x ≡ 0 → InUse (view (reach_of s m)) x → ⊥
-  unfolding sort
-  in_use_not x e i = omega (arith, e, i)
+  used_by x e = decides_at e (decides_ltb 0 (sort_in s x))
 
   pub group_of_byte : (g : ℕ) → g < 64 → get_or s g 0 ≡ 1 → Group (view (reach_of s m)) g
   group_of_byte g l e = (decides_sort (reach_of s m) g 1 l (omega arith) (omega arith)).sound (eq-eqb _ _ e)

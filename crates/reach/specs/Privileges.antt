@@ -1,9 +1,7 @@
 -- Privileges (document 01's holdings): what a user owns, manages and administers, and what he is permitted. Each relation has
 -- beside it a test that computes.
-use Rattle.std.specs.Prelude.{◌≡◌, Bool, true, not, ◌&&◌, ℕ, ◌<◌, eqb, ltb}
+use Rattle.std.specs.Prelude.{◌≡◌, Bool, true, not, ◌&&◌, ℕ, ◌<◌, eqb, ltb, Option, None}
 use Rattle.reach.specs.declared.Policy.{Policy}
-use Rattle.reach.specs.declared.Place.{Place}
-use Rattle.reach.specs.declared.Place.TheVariants.{Nothing}
 use Rattle.reach.specs.Words.{bit, has}
 use Rattle.reach.specs.Tests.{◌⇒◌∥◌, some, lowest, Some}
 use Rattle.reach.specs.Tables.{appointment, rule, View}
@@ -104,8 +102,8 @@ unfoldable pub permitted : Policy → ℕ → ℕ → ℕ → Bool
 permitted p u k x = askable p u k x && some 64 (permits_by p u k x)
 
 -- The lowest place of a rule that permits it, or none.
-unfoldable pub permitting : Policy → ℕ → ℕ → ℕ → Place
-permitting p u k x = askable p u k x ⇒ lowest 64 (permits_by p u k x) ∥ Nothing
+unfoldable pub permitting : Policy → ℕ → ℕ → ℕ → Option ℕ
+permitting p u k x = askable p u k x ⇒ lowest 64 (permits_by p u k x) ∥ None
 
 -- Some object in use has no owner.
 unfoldable pub orphaned : Policy → Bool

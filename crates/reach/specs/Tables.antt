@@ -1,14 +1,32 @@
 -- What the board keeps: the policy (document 01's sheet), as it counts whatever value it has, and the founding.
-use Rattle.std.specs.Prelude.{◌≡◌, Bool, false, List, ◌∷◌, ℕ, leb, ltb, length, get_or, replicate}
+use Rattle.std.specs.Prelude.{◌≡◌, Bool, false, List, ◌∷◌, ℕ, leb, ltb, length, get_or, replicate, Option, Some, None}
 use Rattle.reach.specs.declared.Policy.{Policy}
 use Rattle.reach.specs.declared.Appointment.{Appointment}
 use Rattle.reach.specs.declared.AccessRule.{AccessRule}
+use Rattle.reach.specs.declared.Sort.{Sort}
+use Rattle.reach.specs.declared.Sort.TheVariants.{Group, User, Target}
+use Rattle.reach.specs.declared.Post.{Post}
+use Rattle.reach.specs.declared.Post.TheVariants.{Owner, Manager, Administrator}
 use Rattle.reach.specs.Words.{has}
 use Rattle.reach.specs.Tests.{◌⇒◌∥◌}
 
 -- [01:keeps.17] "An unknown sort or kind counts as empty": the sorts and the kinds of document 01 are 1 to 3, and 0 is empty.
 unfoldable pub counted : ℕ → ℕ
 counted n = leb n 3 ⇒ n ∥ 0
+
+-- [01:keeps.7] "Sort 0 empty, 1 group (the thesis's domain), 2 member, 3 gear.": the number of each sort, and of none.
+abbrev pub sort_number : Option Sort → ℕ
+sort_number None = 0
+sort_number (Some Group) = 1
+sort_number (Some User) = 2
+sort_number (Some Target) = 3
+
+-- [01:keeps.11] ".. kind (1 owner, 2 manager, 3 administrator)": the number of each post, and of none.
+abbrev pub post_number : Option Post → ℕ
+post_number None = 0
+post_number (Some Owner) = 1
+post_number (Some Manager) = 2
+post_number (Some Administrator) = 3
 
 -- [01:keeps.6] "64 objects, numbers 0 to 63." [01:keeps.7] "Sort 0 empty, 1 group (the thesis's domain), 2 member, 3 gear."
 -- A number past the table is as an empty object (D3).

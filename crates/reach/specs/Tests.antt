@@ -1,7 +1,5 @@
 -- Tests that compute, and what it means that a test decides a fact.
-use Rattle.std.specs.Prelude.{◌≡◌, Bool, true, false, ◌||◌, ℕ, zero, suc, ◌<◌}
-use Rattle.reach.specs.declared.Place.{Place}
-use Rattle.reach.specs.declared.Place.TheVariants.{At, Nothing}
+use Rattle.std.specs.Prelude.{◌≡◌, Bool, true, false, ◌||◌, ℕ, zero, suc, ◌<◌, Option, None}
 
 -- The first test that passes gives the answer: `test ⇒ answer ∥ test ⇒ answer ∥ .. ∥ otherwise`.
 infixr 5 ◌⇒◌∥◌
@@ -15,12 +13,12 @@ some zero t = false
 some (suc n) t = some n t || t n
 
 -- The lowest number below n that passes the test, or else the other answer.
-unfoldable pub lowest_or : Place → ℕ → (ℕ → Bool) → Place
+unfoldable pub lowest_or : Option ℕ → ℕ → (ℕ → Bool) → Option ℕ
 lowest_or other zero t = other
-lowest_or other (suc n) t = lowest_or (t n ⇒ At n ∥ other) n t
+lowest_or other (suc n) t = lowest_or (t n ⇒ Option.Some n ∥ other) n t
 
-abbrev pub lowest : ℕ → (ℕ → Bool) → Place
-lowest n t = lowest_or Nothing n t
+abbrev pub lowest : ℕ → (ℕ → Bool) → Option ℕ
+lowest n t = lowest_or None n t
 
 -- P holds of some number below n.
 pub record Some (n : ℕ) (P : ℕ → Type 0) : Type 0 where

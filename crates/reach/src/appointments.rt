@@ -6,13 +6,12 @@ ghost use Rattle.reach.specs.Tables.{no_appointment};
 ghost use Rattle.reach.specs.Privileges.{owner, manager};
 ghost use Rattle.reach.specs.Asking.{HasA, AppointedOver, PostsIn, CoversPair, HasB, HasFirst, OwnersA};
 
-use crate::objects::sort_in;
 use crate::sets::{has, just, mark, only_if};
-use crate::{Appointment, Posts, Sides};
+use crate::{Appointment, Objects, Post, Posts, Sides};
 
 // The places whose appointment u holds. There is no branch on a place, since the processor can't guess which of them are his.
-fn held_by(appointments: [Appointment; 32], u: u8) -> u32
-    ensures { SetOf result (λ i. (i < 32) × ((get_or appointments i no_appointment).holder ≡ u)) }
+fn held_by(appointments: &[Appointment; 32], u: u8) -> u32
+    ensures { SetOf result (λ i. (i < 32) × ((get_or appointments.now i no_appointment).holder ≡ u)) }
 {
     let mut set: u32 = 0;
     let mut i: usize = 0;
@@ -24,8 +23,8 @@ fn held_by(appointments: [Appointment; 32], u: u8) -> u32
 }
 
 // The places whose appointment is of that kind.
-fn of_kind(appointments: [Appointment; 32], kind: u8) -> u32
-    ensures { SetOf result (λ i. (i < 32) × ((get_or appointments i no_appointment).kind ≡ kind)) }
+fn of_kind(appointments: &[Appointment; 32], kind: u8) -> u32
+    ensures { SetOf result (λ i. (i < 32) × ((get_or appointments.now i no_appointment).kind ≡ kind)) }
 {
     let mut set: u32 = 0;
     let mut i: usize = 0;
@@ -43,14 +42,14 @@ fn posts_by(w: Appointment) -> Posts
 {
     let a = just(w.a);
     Posts {
-        owner: only_if(w.kind == 1, a),
-        manager: only_if(w.kind == 2, a),
+        owner: only_if(w.kind == Post::Owner as u8, a),
+        manager: only_if(w.kind == Post::Manager as u8, a),
     }
 }
 
 // What u is appointed over, as an owner and as a manager: of the places that are his, the lowest first.
-pub fn posts_of(appointments: [Appointment; 32], u: u8) -> Posts
-    ensures { PostsIn appointments u result }
+pub fn posts_of(appointments: &[Appointment; 32], u: u8) -> Posts
+    ensures { PostsIn appointments.now u result }
 {
     let mut owner: u64 = 0;
     let mut manager: u64 = 0;
@@ -69,7 +68,7 @@ pub fn posts_of(appointments: [Appointment; 32], u: u8) -> Posts
 fn pair_by(w: Appointment, first: u64, second: u64) -> bool
     ensures { Decides result (CoversPair w w.holder first second) }
 {
-    (w.kind == 3) & has(first, w.a) & has(second, w.b)
+    (w.kind == Post::Administrator as u8) & has(first, w.a) & has(second, w.b)
 }
 
 // The same for u: another's appointment does not.
@@ -83,8 +82,8 @@ fn covers(w: Appointment, u: u8, first: u64, second: u64) -> bool
 }
 
 // Whether one of u's administrator's appointments does.
-pub fn covers_pair(appointments: [Appointment; 32], u: u8, first: u64, second: u64) -> bool
-    ensures { Decides result (Some 32 (λ i. CoversPair (get_or appointments i no_appointment) u first second)) }
+pub fn covers_pair(appointments: &[Appointment; 32], u: u8, first: u64, second: u64) -> bool
+    ensures { Decides result (Some 32 (λ i. CoversPair (get_or appointments.now i no_appointment) u first second)) }
 {
     let mut i: usize = 0;
     while i < 32 {
@@ -105,9 +104,9 @@ pub struct Given {
 }
 
 // The posts of u, and whether one of his administrator's appointments covers the pair of sets: his places are gone through once.
-pub fn given_to(appointments: [Appointment; 32], u: u8, first: u64, second: u64) -> Given
-    ensures { SetOf result.owner (AppointedOver appointments owner u) × SetOf result.manager (AppointedOver appointments manager u) ×
-        Decides result.pair (Some 32 (λ i. CoversPair (get_or appointments i no_appointment) u first second)) }
+pub fn given_to(appointments: &[Appointment; 32], u: u8, first: u64, second: u64) -> Given
+    ensures { SetOf result.owner (AppointedOver appointments.now owner u) × SetOf result.manager (AppointedOver appointments.now manager u) ×
+        Decides result.pair (Some 32 (λ i. CoversPair (get_or appointments.now i no_appointment) u first second)) }
 {
     let mut owner: u64 = 0;
     let mut manager: u64 = 0;
@@ -134,7 +133,7 @@ fn sides_by(w: Appointment, set: u64) -> Sides
     ensures { SetOf result.first (λ a. (a < 64) × HasFirst w w.holder set a) ×
         SetOf result.second (λ b. (b < 64) × HasB w w.holder set b) }
 {
-    let administrator = w.kind == 3;
+    let administrator = w.kind == Post::Administrator as u8;
     Sides {
         first: only_if(administrator & has(set, w.b), just(w.a)),
         second: only_if(administrator & has(set, w.a), just(w.b)),
@@ -142,9 +141,9 @@ fn sides_by(w: Appointment, set: u64) -> Sides
 }
 
 // The sides of u's administrator's appointments whose other side is in the set: of the places that are his, the lowest first.
-pub fn sides_of(appointments: [Appointment; 32], u: u8, set: u64) -> Sides
-    ensures { SetOf result.first (λ a. Some 32 (λ i. (a < 64) × HasFirst (get_or appointments i no_appointment) u set a)) ×
-        SetOf result.second (λ b. Some 32 (λ i. (b < 64) × HasB (get_or appointments i no_appointment) u set b)) }
+pub fn sides_of(appointments: &[Appointment; 32], u: u8, set: u64) -> Sides
+    ensures { SetOf result.first (λ a. Some 32 (λ i. (a < 64) × HasFirst (get_or appointments.now i no_appointment) u set a)) ×
+        SetOf result.second (λ b. Some 32 (λ i. (b < 64) × HasB (get_or appointments.now i no_appointment) u set b)) }
 {
     let mut first: u64 = 0;
     let mut second: u64 = 0;
@@ -160,15 +159,15 @@ pub fn sides_of(appointments: [Appointment; 32], u: u8, set: u64) -> Sides
 }
 
 // The As of all owners' appointments whose holder is a user: of the places that have an owner's, the lowest first.
-pub fn owners_from(sorts: &[u8; 64], appointments: [Appointment; 32]) -> u64
-    ensures { SetOf result (λ a. Some 32 (λ i. (a < 64) × OwnersA sorts.now (get_or appointments i no_appointment) a)) }
+pub fn owners_from(objects: Objects, appointments: &[Appointment; 32]) -> u64
+    ensures { SetOf result (λ a. Some 32 (λ i. (a < 64) × OwnersA objects.entry.sorts.now (get_or appointments.now i no_appointment) a)) }
 {
     let mut set: u64 = 0;
-    let mut left = of_kind(appointments, 1);
+    let mut left = of_kind(appointments, Post::Owner as u8);
     while left != 0 {
         let i = u32::trailing_zeros(left) as usize;
         let w = appointments[i];
-        set |= only_if(sort_in(sorts, w.holder) == 2, just(w.a));
+        set |= only_if(objects.is_user(w.holder), just(w.a));
         left &= !(1u32 << i);
     }
     set

@@ -5,7 +5,6 @@
 
 mod appointments;
 mod climbing;
-mod objects;
 mod orphans;
 mod questions;
 mod rounds;
@@ -13,16 +12,35 @@ mod ruling;
 mod sets;
 mod successors;
 mod surveying;
+mod tables;
 
 pub use appointments::{covers_pair, posts_of, sides_of};
 pub use climbing::climb;
-pub use objects::{appointment_at, rule_at, sort_in};
 pub use orphans::ownerless;
 pub use rounds::not_under;
 pub use sets::{has, just, only_if};
+pub use successors::{dismiss, take_out};
+pub use tables::{appointment_at, rule_at, sort_in};
 
-// Document 01's warrant: kind 1 owner, 2 manager, 3 administrator; any other kind is an empty place.
-#[derive(Clone, Copy)]
+// The sorts of objects, by document 01's numbers: its members are users here, and its gear targets. A policy stores the number, as any byte
+// is legal there; one that is none of these is an empty object.
+#[derive(Clone, Copy, Debug, PartialEq, Eq)]
+pub enum Sort {
+    Group = 1,
+    User = 2,
+    Target = 3,
+}
+
+// The posts of an appointment, by document 01's numbers of kinds. A kind that is none of these is an empty place.
+#[derive(Clone, Copy, Debug, PartialEq, Eq)]
+pub enum Post {
+    Owner = 1,
+    Manager = 2,
+    Administrator = 3,
+}
+
+// Document 01's warrant: the number of a post, its holder, and the groups A and B. Any value is legal.
+#[derive(Clone, Copy, Default)]
 pub struct Appointment {
     pub kind: u8,
     pub holder: u8,
@@ -31,7 +49,7 @@ pub struct Appointment {
 }
 
 // Document 01's rule. An empty place has used false, whatever else it holds.
-#[derive(Clone, Copy)]
+#[derive(Clone, Copy, Default)]
 pub struct AccessRule {
     pub used: bool,
     pub users: u8,
@@ -49,15 +67,15 @@ pub struct Policy {
     pub rules: [AccessRule; 64],
 }
 
-// A place of a table, or none.
+// The two tables that reach depends on, lent: the sorts, and the memberships.
 #[derive(Clone, Copy)]
-pub enum Place {
-    At(u8),
-    Nothing,
+pub struct Objects<'a> {
+    pub sorts: &'a [u8; 64],
+    pub memberships: &'a [u64; 64],
 }
 
 // The objects in use, and those of each sort, as sets.
-#[derive(Clone, Copy)]
+#[derive(Clone, Copy, Default)]
 pub struct Masks {
     pub objects: u64,
     pub groups: u64,
@@ -66,14 +84,14 @@ pub struct Masks {
 }
 
 // What a user is appointed over: the As of his owner's appointments, and of his manager's, as sets.
-#[derive(Clone, Copy)]
+#[derive(Clone, Copy, Default)]
 pub struct Posts {
     pub owner: u64,
     pub manager: u64,
 }
 
 // Of administrator's appointments, the As whose B is in some set, and the Bs whose A is in it, as sets.
-#[derive(Clone, Copy)]
+#[derive(Clone, Copy, Default)]
 pub struct Sides {
     pub first: u64,
     pub second: u64,

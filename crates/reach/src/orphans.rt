@@ -3,8 +3,8 @@ ghost use Rattle.std.specs.Prelude.{◌≡◌, ℕ, ◌≤◌};
 ghost use Rattle.reach.specs.Privileges.{orphaned};
 ghost use Rattle.reach.specs.Asking.{tables_of, Looking, Closed};
 
-use crate::Appointment;
 use crate::appointments::owners_from;
+use crate::{Appointment, Objects, Sort};
 
 // The groups that are found owned, and the objects in use that are not found owned yet, as sets.
 #[derive(Clone, Copy)]
@@ -14,9 +14,11 @@ struct Found {
 }
 
 // One pass over the objects: one in use is owned if it is directly in a group that is found owned by then, or in the set; else it is left.
-fn scan<'a>(sorts: &'a [u8; 64], memberships: &'a [u64; 64], set: u64) -> Found
-    ensures { Looking sorts.now memberships.now set 64 result.groups result.left }
+fn scan(objects: Objects, set: u64) -> Found
+    ensures { Looking objects.entry.sorts.now objects.entry.memberships.now set 64 result.groups result.left }
 {
+    let sorts = objects.sorts;
+    let memberships = objects.memberships;
     let mut groups: u64 = 0;
     let mut left: u64 = 0;
     for x in 0..64 {
@@ -33,7 +35,7 @@ fn scan<'a>(sorts: &'a [u8; 64], memberships: &'a [u64; 64], set: u64) -> Found
                 continue;
             }
         }
-        if sort != 1 {
+        if sort != Sort::Group as u8 {
             continue;
         }
         groups |= 1u64 << x;
@@ -42,11 +44,14 @@ fn scan<'a>(sorts: &'a [u8; 64], memberships: &'a [u64; 64], set: u64) -> Found
 }
 
 // One round over what is left: what is directly in a group that is found owned by then is left no longer.
-fn round<'a>(sorts: &'a [u8; 64], memberships: &'a [u64; 64], had: u64, waiting: u64) -> Found
-    ensures { (result.left ≤ waiting) × (result.left ≡ waiting → Closed memberships.now result.groups result.left) ×
-        ((set : ℕ) → Looking sorts.now memberships.now set 64 had waiting →
-        Looking sorts.now memberships.now set 64 result.groups result.left) }
+fn round(objects: Objects, had: u64, waiting: u64) -> Found
+    ensures { (result.left ≤ waiting) ×
+        (result.left ≡ waiting → Closed objects.entry.memberships.now result.groups result.left) ×
+        ((set : ℕ) → Looking objects.entry.sorts.now objects.entry.memberships.now set 64 had waiting →
+        Looking objects.entry.sorts.now objects.entry.memberships.now set 64 result.groups result.left) }
 {
+    let sorts = objects.sorts;
+    let memberships = objects.memberships;
     let mut groups = had;
     let mut left = waiting;
     let mut rest = waiting;
@@ -58,15 +63,35 @@ fn round<'a>(sorts: &'a [u8; 64], memberships: &'a [u64; 64], had: u64, waiting:
             continue;
         }
         left &= !one;
-        if sorts[h] == 1 {
+        if sorts[h] == Sort::Group as u8 {
             groups |= one;
         }
     }
     Found { groups, left }
 }
 
-// Whether some object in use has no owner by these tables: whether rounds over what a pass has left, the last of which finds nothing, leave
-// any.
+impl<'a> Objects<'a> {
+    // Whether some object in use has no owner by these appointments: whether rounds over what a pass has left, the last of which finds
+    // nothing, leave any.
+    pub fn ownerless(self, appointments: &[Appointment; 32]) -> bool
+        ensures { result ≡ orphaned (tables_of self.entry.sorts.now self.entry.memberships.now appointments.now) }
+    {
+        let set = owners_from(self, appointments);
+        let first = scan(self, set);
+        let mut groups = first.groups;
+        let mut left = first.left;
+        loop {
+            let next = round(self, groups, left);
+            if next.left == left {
+                return next.left != 0;
+            }
+            groups = next.groups;
+            left = next.left;
+        }
+    }
+}
+
+// As `Objects::ownerless`, of the tables one by one.
 pub fn ownerless<'a>(
     sorts: &'a [u8; 64],
     memberships: &'a [u64; 64],
@@ -74,16 +99,5 @@ pub fn ownerless<'a>(
 ) -> bool
     ensures { result ≡ orphaned (tables_of sorts.now memberships.now appointments) }
 {
-    let set = owners_from(sorts, appointments);
-    let first = scan(sorts, memberships, set);
-    let mut groups = first.groups;
-    let mut left = first.left;
-    loop {
-        let next = round(sorts, memberships, groups, left);
-        if next.left == left {
-            return next.left != 0;
-        }
-        groups = next.groups;
-        left = next.left;
-    }
+    Objects { sorts, memberships }.ownerless(&appointments)
 }

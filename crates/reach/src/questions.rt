@@ -8,89 +8,47 @@ ghost use Rattle.reach.specs.Privileges.{owns, manages, administers, permitting,
 ghost use Rattle.reach.specs.Asking.{PostsOf, held_of, PlacingOf};
 
 use crate::appointments::{covers_pair, given_to, posts_of, sides_of};
-use crate::climbing::climb;
-use crate::objects::{row, sort_in};
-use crate::orphans::ownerless;
 use crate::rounds::descend;
 use crate::ruling::{covering, granted_over};
-use crate::sets::has;
-use crate::surveying::masks_of;
-use crate::{Held, Over, Place, Placing, Policy, Posts};
+use crate::{Held, Over, Placing, Policy, Posts};
 
 impl Policy {
     // What u is appointed over, as an owner and as a manager: nothing, if he is no user.
     pub fn posts(self, u: u8) -> Posts
         ensures { PostsOf (view self) u result }
     {
-        let sorts = self.sorts;
-        let appointments = self.appointments;
-        if sort_in(&sorts, u) != 2 {
-            return Posts {
-                owner: 0,
-                manager: 0,
-            };
+        if !self.is_user(u) {
+            return Posts::default();
         }
-        posts_of(appointments, u)
+        posts_of(&self.appointments, u)
     }
 
     // All that u owns.
     pub fn owned(self, u: u8) -> u64
         ensures { SetOf result (λ x. Owns (view self) u x) }
     {
-        let sorts = self.sorts;
-        let memberships = self.memberships;
-        let appointments = self.appointments;
-        if sort_in(&sorts, u) != 2 {
-            return 0;
-        }
-        let m = masks_of(sorts);
-        let posts = posts_of(appointments, u);
-        descend(&memberships, m, posts.owner)
+        descend(&self.memberships, self.masks(), self.posts(u).owner)
     }
 
     // All that u manages.
     pub fn managed(self, u: u8) -> u64
         ensures { SetOf result (λ x. Manages (view self) u x) }
     {
-        let sorts = self.sorts;
-        let memberships = self.memberships;
-        let appointments = self.appointments;
-        if sort_in(&sorts, u) != 2 {
-            return 0;
-        }
-        let m = masks_of(sorts);
-        let posts = posts_of(appointments, u);
-        descend(&memberships, m, posts.manager)
+        descend(&self.memberships, self.masks(), self.posts(u).manager)
     }
 
     // Whether u owns x.
     pub fn owns(self, u: u8, x: u8) -> bool
         ensures { result ≡ owns self u x }
     {
-        let sorts = self.sorts;
-        let memberships = self.memberships;
-        let appointments = self.appointments;
-        if sort_in(&sorts, u) != 2 {
-            return false;
-        }
-        let over = climb(&sorts, &memberships, x);
-        let posts = posts_of(appointments, u);
-        posts.owner & over != 0
+        self.posts(u).owner & self.above(x) != 0
     }
 
     // Whether u manages x.
     pub fn manages(self, u: u8, x: u8) -> bool
         ensures { result ≡ manages self u x }
     {
-        let sorts = self.sorts;
-        let memberships = self.memberships;
-        let appointments = self.appointments;
-        if sort_in(&sorts, u) != 2 {
-            return false;
-        }
-        let over = climb(&sorts, &memberships, x);
-        let posts = posts_of(appointments, u);
-        posts.manager & over != 0
+        self.posts(u).manager & self.above(x) != 0
     }
 
     // What u holds over x and over y, what he administers of the two, and whether x is directly in y: what is asked of a request that
@@ -98,16 +56,11 @@ impl Policy {
     pub fn held(self, u: u8, x: u8, y: u8) -> Held
         ensures { result ≡ held_of self u x y }
     {
-        let sorts = self.sorts;
-        let memberships = self.memberships;
-        let appointments = self.appointments;
-        let over_x = climb(&sorts, &memberships, x);
-        let over_y = climb(&sorts, &memberships, y);
-        let given = given_to(appointments, u, over_x, over_y);
-        let used = 0 < sort_in(&sorts, x);
-        let group = sort_in(&sorts, y) == 1;
-        let direct = used & group & has(row(&memberships, x), y);
-        let user = sort_in(&sorts, u) == 2;
+        let objects = self.objects();
+        let over_x = objects.above(x);
+        let over_y = objects.above(y);
+        let given = given_to(&self.appointments, u, over_x, over_y);
+        let user = objects.is_user(u);
         let first = Over {
             owned: user & (given.owner & over_x != 0),
             managed: user & (given.manager & over_x != 0),
@@ -120,7 +73,7 @@ impl Policy {
             first,
             second,
             pair: user & given.pair,
-            direct,
+            direct: objects.direct(x, y),
         }
     }
 
@@ -129,19 +82,12 @@ impl Policy {
     pub fn placing(self, u: u8, x: u8, y: u8) -> Placing
         ensures { PlacingOf self u x y result }
     {
-        let sorts = self.sorts;
-        let memberships = self.memberships;
-        let posts = self.posts(u);
-        let first = climb(&sorts, &memberships, x);
-        let second = climb(&sorts, &memberships, y);
-        let used = 0 < sort_in(&sorts, x);
-        let into = sort_in(&sorts, y) == 1;
-        let direct = used & into & has(row(&memberships, x), y);
+        let objects = self.objects();
         Placing {
-            posts,
-            first,
-            second,
-            direct,
+            posts: self.posts(u),
+            first: objects.above(x),
+            second: objects.above(y),
+            direct: objects.direct(x, y),
         }
     }
 
@@ -149,76 +95,53 @@ impl Policy {
     pub fn administered(self, u: u8, a: u8) -> u64
         ensures { SetOf result (λ b. Administers (view self) u a b) }
     {
-        let sorts = self.sorts;
-        let memberships = self.memberships;
-        let appointments = self.appointments;
-        if sort_in(&sorts, u) != 2 {
+        if !self.is_user(u) {
             return 0;
         }
-        let m = masks_of(sorts);
-        let over = climb(&sorts, &memberships, a);
-        let sides = sides_of(appointments, u, over);
-        descend(&memberships, m, sides.second)
+        let sides = sides_of(&self.appointments, u, self.above(a));
+        descend(&self.memberships, self.masks(), sides.second)
     }
 
     // Whether u administers the pair (a, b).
     pub fn administers(self, u: u8, a: u8, b: u8) -> bool
         ensures { result ≡ administers self u a b }
     {
-        let sorts = self.sorts;
-        let memberships = self.memberships;
-        let appointments = self.appointments;
-        if sort_in(&sorts, u) != 2 {
+        if !self.is_user(u) {
             return false;
         }
-        let first = climb(&sorts, &memberships, a);
-        let second = climb(&sorts, &memberships, b);
-        covers_pair(appointments, u, first, second)
+        covers_pair(&self.appointments, u, self.above(a), self.above(b))
     }
 
     // The targets on which u is permitted operation k.
     pub fn permitted(self, u: u8, k: u8) -> u64
         ensures { SetOf result (λ x. Permitted (view self) u k x) }
     {
-        let sorts = self.sorts;
-        let memberships = self.memberships;
-        let rules = self.rules;
-        if sort_in(&sorts, u) != 2 {
+        if !self.is_user(u) {
             return 0;
         }
         if 8 <= k {
             return 0;
         }
-        let m = masks_of(sorts);
-        let over = climb(&sorts, &memberships, u);
-        let granted = granted_over(rules, k, over);
-        descend(&memberships, m, granted) & m.targets
+        let m = self.masks();
+        let granted = granted_over(&self.rules, k, self.above(u));
+        descend(&self.memberships, m, granted) & m.targets
     }
 
     // The lowest place of a rule by which u is permitted operation k on x, or none.
-    pub fn permitting(self, u: u8, k: u8, x: u8) -> Place
+    pub fn permitting(self, u: u8, k: u8, x: u8) -> Option<u8>
         ensures { result ≡ permitting self u k x }
     {
-        let sorts = self.sorts;
-        let memberships = self.memberships;
-        let rules = self.rules;
-        let user = sort_in(&sorts, u);
-        let target = sort_in(&sorts, x);
-        if !((user == 2) & (target == 3) & (k < 8)) {
-            return Place::Nothing;
+        let objects = self.objects();
+        if !(objects.is_user(u) & objects.is_target(x) & (k < 8)) {
+            return None;
         }
-        let users = climb(&sorts, &memberships, u);
-        let targets = climb(&sorts, &memberships, x);
-        covering(rules, k, users, targets)
+        covering(&self.rules, k, objects.above(u), objects.above(x))
     }
 
     // Whether some object in use has no owner.
     pub fn orphaned(self) -> bool
         ensures { result ≡ orphaned self }
     {
-        let sorts = self.sorts;
-        let memberships = self.memberships;
-        let appointments = self.appointments;
-        ownerless(&sorts, &memberships, appointments)
+        self.objects().ownerless(&self.appointments)
     }
 }

@@ -9,7 +9,7 @@ ghost use Rattle.reach.specs.Surveys.{Whose};
 
 use crate::sets::{just, only_if};
 use crate::surveying::masks_of;
-use crate::{Masks, Policy};
+use crate::{Masks, Objects, Policy};
 
 // All that is under something of the set. A round goes through the objects that are not found yet, and finds those that are directly in a
 // group found; the last one finds nothing.
@@ -31,14 +31,24 @@ pub fn descend(memberships: &[u64; 64], m: Masks, set: u64) -> u64
     found
 }
 
-// Those of the one set that are in use and under nothing of the other.
+impl<'a> Objects<'a> {
+    // Those of the one set that are in use and under nothing of the other.
+    pub fn not_under(self, set: u64, over: u64) -> u64
+        ensures { SetOf result (λ x. (bit set x ≡ 1) × InUse (view (reach_of self.entry.sorts.now self.entry.memberships.now)) x ×
+            (UnderSomeBy self.entry.sorts.now self.entry.memberships.now over x → ⊥)) }
+    {
+        let m = masks_of(self.sorts);
+        let under = descend(self.memberships, m, over);
+        set & m.objects & !under
+    }
+}
+
+// As `Objects::not_under`, of the two tables lent one by one.
 pub fn not_under<'a>(sorts: &'a [u8; 64], memberships: &'a [u64; 64], set: u64, over: u64) -> u64
     ensures { SetOf result (λ x. (bit set x ≡ 1) × InUse (view (reach_of sorts.now memberships.now)) x ×
         (UnderSomeBy sorts.now memberships.now over x → ⊥)) }
 {
-    let m = masks_of(*sorts);
-    let under = descend(memberships, m, over);
-    set & m.objects & !under
+    Objects { sorts, memberships }.not_under(set, over)
 }
 
 impl Policy {
@@ -46,9 +56,7 @@ impl Policy {
     pub fn under_set(self, g: u8) -> u64
         ensures { SetOf result (λ x. Under (view self) x g) }
     {
-        let sorts = self.sorts;
-        let memberships = self.memberships;
-        let m = masks_of(sorts);
-        descend(&memberships, m, just(g))
+        let m = self.masks();
+        descend(&self.memberships, m, just(g))
     }
 }

@@ -5,8 +5,8 @@ ghost use Rattle.reach.specs.Tests.{Some, lowest};
 ghost use Rattle.reach.specs.Tables.{no_rule};
 ghost use Rattle.reach.specs.Asking.{covered_by, HasT};
 
+use crate::AccessRule;
 use crate::sets::{has, just};
-use crate::{AccessRule, Place};
 
 // Whether the rule is in use, has the operation, and its U and T are in the sets.
 fn covered(rule: AccessRule, k: u8, users: u64, targets: u64) -> bool
@@ -19,18 +19,18 @@ fn covered(rule: AccessRule, k: u8, users: u64, targets: u64) -> bool
 }
 
 // The lowest place of a rule that is in use, has the operation, and whose U and T are in the sets; or none.
-pub fn covering(rules: [AccessRule; 64], k: u8, users: u64, targets: u64) -> Place
-    ensures { result ≡ lowest 64 (λ i. covered_by (get_or rules i no_rule) k users targets) }
+pub fn covering(rules: &[AccessRule; 64], k: u8, users: u64, targets: u64) -> Option<u8>
+    ensures { result ≡ lowest 64 (λ i. covered_by (get_or rules.now i no_rule) k users targets) }
 {
     let mut i: u8 = 0;
     while i < 64 {
         let n = i as usize;
         if covered(rules[n], k, users, targets) {
-            return Place::At(i);
+            return Some(i);
         }
         i += 1;
     }
-    Place::Nothing
+    None
 }
 
 // The T of this rule, if it is in use, has the operation, and its U is in the set.
@@ -47,8 +47,8 @@ fn t_of(rule: AccessRule, k: u8, users: u64) -> u64
 }
 
 // The Ts of the rules in use that have the operation, and whose U is in the set.
-pub fn granted_over(rules: [AccessRule; 64], k: u8, users: u64) -> u64
-    ensures { SetOf result (λ t. Some 64 (λ i. (t < 64) × HasT (get_or rules i no_rule) k users t)) }
+pub fn granted_over(rules: &[AccessRule; 64], k: u8, users: u64) -> u64
+    ensures { SetOf result (λ t. Some 64 (λ i. (t < 64) × HasT (get_or rules.now i no_rule) k users t)) }
 {
     let mut set: u64 = 0;
     let mut i: usize = 0;

@@ -1,8 +1,28 @@
 // The policy after each accepted change. What a change does not name stays as it was.
-ghost use Rattle.std.specs.Prelude.{◌≡◌};
-ghost use Rattle.reach.specs.Successors.{made, put, taken, appointed, dismissed, granted, withdrawn};
+ghost use Rattle.std.specs.Prelude.{◌≡◌, set};
+ghost use Rattle.reach.specs.Tests.{◌⇒◌∥◌};
+ghost use Rattle.reach.specs.Tables.{no_appointment};
+ghost use Rattle.reach.specs.Successors.{on_table, remove_from, made, put, taken, appointed, dismissed, granted, withdrawn};
 
 use crate::{AccessRule, Appointment, Policy};
+
+// The object x taken out of g, in the table alone; past the table nothing changes.
+pub fn take_out(memberships: &mut [u64; 64], x: u8, g: u8)
+    ensures { memberships.new ≡ (on_table x g ⇒ remove_from memberships.old x g ∥ memberships.old) }
+{
+    if (x < 64) & (g < 64) {
+        memberships[x as usize] &= !(1u64 << g);
+    }
+}
+
+// The appointment at place i taken away, in the table alone; past the table nothing changes.
+pub fn dismiss(appointments: &mut [Appointment; 32], i: u8)
+    ensures { appointments.new ≡ set appointments.old i no_appointment }
+{
+    if i < 32 {
+        appointments[i as usize] = Appointment::default();
+    }
+}
 
 impl Policy {
     // The object x made, of a sort, directly in g and in nothing else, with nothing in it.
@@ -29,11 +49,8 @@ impl Policy {
     pub fn put(mut self, x: u8, g: u8) -> Policy
         ensures { result ≡ put self x g }
     {
-        if x < 64 {
-            if g < 64 {
-                let i = x as usize;
-                self.memberships[i] = self.memberships[i] | (1u64 << g);
-            }
+        if (x < 64) & (g < 64) {
+            self.memberships[x as usize] |= 1u64 << g;
         }
         self
     }
@@ -42,12 +59,7 @@ impl Policy {
     pub fn taken(mut self, x: u8, g: u8) -> Policy
         ensures { result ≡ taken self x g }
     {
-        if x < 64 {
-            if g < 64 {
-                let i = x as usize;
-                self.memberships[i] = self.memberships[i] & !(1u64 << g);
-            }
-        }
+        take_out(&mut self.memberships, x, g);
         self
     }
 
@@ -66,13 +78,8 @@ impl Policy {
     pub fn dismissed(mut self, i: u8) -> Policy
         ensures { result ≡ dismissed self i }
     {
-        let none = Appointment {
-            kind: 0,
-            holder: 0,
-            a: 0,
-            b: 0,
-        };
-        self.appointed(i, none)
+        dismiss(&mut self.appointments, i);
+        self
     }
 
     // The place i filled with the rule of users, targets and operations.
@@ -97,12 +104,7 @@ impl Policy {
     {
         let n = i as usize;
         if n < 64 {
-            self.rules[n] = AccessRule {
-                used: false,
-                users: 0,
-                targets: 0,
-                operations: 0,
-            };
+            self.rules[n] = AccessRule::default();
         }
         self
     }

@@ -5,7 +5,7 @@ ghost use Rattle.reach.specs.Words.{SetOf};
 ghost use Rattle.reach.specs.Surveys.{Among, MasksOf};
 
 use crate::sets::{joined, mark};
-use crate::{Masks, Policy};
+use crate::{Masks, Policy, Sort};
 
 // The objects of each sort among 32, as sets.
 #[derive(Clone, Copy)]
@@ -17,10 +17,10 @@ struct Half {
 
 // The objects of each sort among the 32 from a number on, in one pass. The compiler works four sets of 32 bits at once, and of 64
 // bits two: halves take a quarter of the time.
-fn half_of(sorts: [u8; 64], from: usize) -> Half
+fn half_of(sorts: &[u8; 64], from: usize) -> Half
     requires { from ≤ 32 }
-    ensures { SetOf result.groups (Among sorts from 1) × SetOf result.users (Among sorts from 2) ×
-        SetOf result.targets (Among sorts from 3) }
+    ensures { SetOf result.groups (Among sorts.now from 1) × SetOf result.users (Among sorts.now from 2) ×
+        SetOf result.targets (Among sorts.now from 3) }
 {
     let mut groups: u32 = 0;
     let mut users: u32 = 0;
@@ -28,9 +28,9 @@ fn half_of(sorts: [u8; 64], from: usize) -> Half
     let mut i: usize = 0;
     while i < 32 {
         let sort = sorts[from + i];
-        groups |= mark(sort == 1, i);
-        users |= mark(sort == 2, i);
-        targets |= mark(sort == 3, i);
+        groups |= mark(sort == Sort::Group as u8, i);
+        users |= mark(sort == Sort::User as u8, i);
+        targets |= mark(sort == Sort::Target as u8, i);
         i += 1;
     }
     Half {
@@ -41,8 +41,8 @@ fn half_of(sorts: [u8; 64], from: usize) -> Half
 }
 
 // The objects of each sort.
-pub fn masks_of(sorts: [u8; 64]) -> Masks
-    ensures { (p : Policy) → p.sorts ≡ sorts → MasksOf p result }
+pub fn masks_of(sorts: &[u8; 64]) -> Masks
+    ensures { (p : Policy) → p.sorts ≡ sorts.now → MasksOf p result }
 {
     let low = half_of(sorts, 0);
     let high = half_of(sorts, 32);
@@ -62,7 +62,6 @@ impl Policy {
     pub fn masks(self) -> Masks
         ensures { MasksOf self result }
     {
-        let sorts = self.sorts;
-        masks_of(sorts)
+        masks_of(&self.sorts)
     }
 }

@@ -2,18 +2,18 @@
 // No contract can say what is printed; text.rt says what stands in for it.
 use crate::NAMED;
 use crate::text::{end_of_some, head_of_some, item, place};
-use reach::{Place, Policy};
+use reach::Policy;
 use std::io;
 use std::io::Write;
 
 // The target x, if it is in the set, with its place.
-fn item_at<W: Write>(out: &mut W, set: u64, x: u8, found: Place) -> io::Result<()> {
+fn item_at<W: Write>(out: &mut W, set: u64, x: u8, found: Option<u8>) -> io::Result<()> {
     match found {
-        Place::At(i) => {
+        Some(i) => {
             item(out, set, x, true)?;
             place(out, i)
         }
-        Place::Nothing => item(out, set, x, false),
+        None => item(out, set, x, false),
     }
 }
 

@@ -5,55 +5,44 @@ use mathlib.Core.List.{List}
 use Prim.Native.Nat.{ℕ, ◌≤◌}
 use native.Mathlib.Decide.{ℕ_discrete}
 use native.Mathlib.Omega.{arith}
+use Rattle.std.specs.Prelude.{Option, Some, None, Ok, Err}
 use Rattle.reach.specs.declared.Policy.{Policy}
-use Rattle.reach.specs.declared.Place.{Place}
-use Rattle.reach.specs.declared.Place.TheVariants.{At, Nothing}
 use Rattle.reach.specs.Privileges.{permitting}
 use Rattle.reach.proofs.Deciding.{permitted_lowest, permitted_at}
 use Rattle.rules.specs.declared.Request.{Request}
 use Rattle.rules.specs.declared.Request.TheVariants.{Make, Put, Take, Appoint, Dismiss, Grant, Withdraw, Use}
-use Rattle.rules.specs.declared.Verdict.{Verdict}
-use Rattle.rules.specs.declared.Verdict.TheVariants.{Done, DoneBy, Torn, Unknown, Misfit, Stranger, OffTheSheet, Absent, WrongSort}
-use Rattle.rules.specs.declared.Verdict.TheVariants.{AlreadySo, NoAuthority, OwnGain, HandOver, Orphan}
+use Rattle.rules.specs.declared.Refusal.{Refusal}
+use Rattle.rules.specs.declared.Refusal.TheVariants.{Torn, Unknown, Misfit, Stranger, OffTheSheet, Absent, WrongSort, AlreadySo}
+use Rattle.rules.specs.declared.Refusal.TheVariants.{NoAuthority, OwnGain, HandOver, Orphan}
 use Rattle.rules.specs.declared.Answer.{Answer}
 use Rattle.rules.specs.Records.{sender, request}
-use Rattle.rules.specs.Judging.{code_of, cited_of, done_by, done, judge, OneAnswer}
+use Rattle.rules.specs.Judging.{Verdict, number_of, code_of, cited_of, done_by, done, judge, OneAnswer}
 use Rattle.rules.proofs.Table.{accepted_done, judge_verdict, refused_same}
 use Rattle.rules.proofs.Verdicts.{accepted_code, refused_code}
 
+number_bounded : (r : Refusal) → number_of r ≤ 12
+number_bounded Torn = omega arith
+number_bounded Unknown = omega arith
+number_bounded Misfit = omega arith
+number_bounded Stranger = omega arith
+number_bounded OffTheSheet = omega arith
+number_bounded Absent = omega arith
+number_bounded WrongSort = omega arith
+number_bounded AlreadySo = omega arith
+number_bounded NoAuthority = omega arith
+number_bounded OwnGain = omega arith
+number_bounded HandOver = omega arith
+number_bounded Orphan = omega arith
+
 -- Every code is one of document 01's.
 pub code_bounded : (v : Verdict) → code_of v ≤ 12
-code_bounded Done = omega arith
-code_bounded (DoneBy i) = omega arith
-code_bounded Torn = omega arith
-code_bounded Unknown = omega arith
-code_bounded Misfit = omega arith
-code_bounded Stranger = omega arith
-code_bounded OffTheSheet = omega arith
-code_bounded Absent = omega arith
-code_bounded WrongSort = omega arith
-code_bounded AlreadySo = omega arith
-code_bounded NoAuthority = omega arith
-code_bounded OwnGain = omega arith
-code_bounded HandOver = omega arith
-code_bounded Orphan = omega arith
+code_bounded (Ok by) = omega arith
+code_bounded (Err r) = number_bounded r
 
 -- A refusal cites 255.
 pub refused_cites : (v : Verdict) → (code_of v ≡ 0 → ⊥) → cited_of v ≡ 255
-refused_cites Done n = refl
-refused_cites (DoneBy i) n = absurd (n refl)
-refused_cites Torn n = refl
-refused_cites Unknown n = refl
-refused_cites Misfit n = refl
-refused_cites Stranger n = refl
-refused_cites OffTheSheet n = refl
-refused_cites Absent n = refl
-refused_cites WrongSort n = refl
-refused_cites AlreadySo n = refl
-refused_cites NoAuthority n = refl
-refused_cites OwnGain n = refl
-refused_cites HandOver n = refl
-refused_cites Orphan n = refl
+refused_cites (Ok by) n = absurd (n refl)
+refused_cites (Err r) n = refl
 
 -- What an accepted request cites is a place of the table, or 255.
 done_cited_bounded : (p : Policy) (u : ℕ) (q : Request) → cited_of (done p u q) ≤ 255
@@ -67,11 +56,11 @@ done_cited_bounded p u (Grant i v t o) = omega arith
 done_cited_bounded p u (Withdraw i) = omega arith
 done_cited_bounded p u (Use x k) = go (permitting p u k x) refl
   where
-    go : (found : Place) → permitting p u k x ≡ found → cited_of (done_by found) ≤ 255
-    go Nothing e = omega arith
-    go (At i) e =
+    go : (found : Option ℕ) → permitting p u k x ≡ found → cited_of (done_by found) ≤ 255
+    go None e = omega arith
+    go (Some i) e =
         let w = permitted_lowest p u k x (permitted_at p u k x i e) in
-        subst (λ (found : Place). cited_of (done_by found) ≤ 255) (sym w.at.0 ∙ e) (omega (arith, w.low))
+        subst (λ (found : Option ℕ). cited_of (done_by found) ≤ 255) (sym w.at.0 ∙ e) (omega (arith, w.low))
 
 -- So every answer cites a byte.
 pub cited_bounded : (p : Policy) (b : List ℕ) → cited_of (judge p b).verdict ≤ 255

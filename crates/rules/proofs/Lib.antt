@@ -1,5 +1,6 @@
 -- The laws of the judge's rules, each file under its subject.
 pub mod Answered
+pub mod Checking
 pub mod Passing
 pub mod Giving
 pub mod Table

@@ -6,13 +6,14 @@ use Prim.Native.Nat.{ℕ, ◌≤◌}
 use native.Mathlib.Omega.{arith}
 use lib.Dec.{eqb, ltb}
 use lib.NonEmpty.{List⁺, one, ◌∷⁺◌, Each⁺}
+use Rattle.std.specs.Prelude.{Err}
 use Rattle.reach.specs.declared.Policy.{Policy}
 use Rattle.reach.specs.Tests.{◌⇒◌∥◌}
 use Rattle.reach.specs.Privileges.{administrator}
 use Rattle.reach.proofs.Testing.{decides_and, decides_eqb}
 use Rattle.rules.specs.declared.Request.{Request}
 use Rattle.rules.specs.declared.Request.TheVariants.{Make, Put, Take, Appoint, Dismiss, Grant, Withdraw, Use}
-use Rattle.rules.specs.declared.Verdict.TheVariants.{OffTheSheet}
+use Rattle.rules.specs.declared.Refusal.TheVariants.{OffTheSheet}
 use Rattle.rules.specs.Refusals.{stranger, one_to_three, off_the_sheet}
 use Rattle.rules.specs.Judging.{verdict_on, verdict}
 use Rattle.rules.proofs.Encoding.{encoded, Read, read_back}
@@ -123,7 +124,7 @@ outside q = each_needed (off_the_sheet q) (limits_of q) (limits q).sound
 
 -- Its record is then answered 5, whoever of the users sends it and whatever the policy is.
 pub outside_answered : (p : Policy) (u : ℕ) (q : Request) → stranger p u ≡ false → off_the_sheet q ≡ true
-    → verdict p (encoded u q) ≡ OffTheSheet
+    → verdict p (encoded u q) ≡ Err OffTheSheet
 unfolding verdict verdict_on
 outside_answered p u q s o =
     let r = read_back u q in

@@ -3,34 +3,35 @@
 use mathlib.Core.Path.{◌≡◌, refl, ap, ◌∙◌}
 use mathlib.Core.Bool.{Bool, true, ◌&&◌}
 use mathlib.Core.Logic.{◌⊎◌, inl, inr}
-use Prim.Native.Nat.{ℕ}
+use Prim.Native.Nat.{ℕ, ◌<◌}
 use native.Mathlib.Omega.{arith}
 use lib.Dec.{eqb, ltb}
 use lib.NonEmpty.{List⁺, one, ◌∷⁺◌, Each⁺}
+use Rattle.std.specs.Prelude.{Option, Ok, Err, None}
 use Rattle.reach.specs.declared.Policy.{Policy}
 use Rattle.reach.specs.Tests.{Some}
 use Rattle.reach.proofs.Testing.{decides_and, decides_eqb, decides_ltb, decides_true}
-use Rattle.rules.specs.declared.Verdict.{Verdict}
-use Rattle.rules.specs.declared.Verdict.TheVariants.{Done, DoneBy, Torn, Unknown, Misfit, Stranger, OffTheSheet, Absent, WrongSort}
-use Rattle.rules.specs.declared.Verdict.TheVariants.{AlreadySo, NoAuthority, OwnGain, HandOver, Orphan}
+use Rattle.rules.specs.declared.Refusal.{Refusal}
+use Rattle.rules.specs.declared.Refusal.TheVariants.{Torn, Unknown, Misfit, Stranger, OffTheSheet, Absent, WrongSort, AlreadySo}
+use Rattle.rules.specs.declared.Refusal.TheVariants.{NoAuthority, OwnGain, HandOver, Orphan}
 use Rattle.rules.specs.declared.Answer.{Answer}
-use Rattle.rules.specs.Judging.{code_of, OneAnswer}
+use Rattle.rules.specs.Judging.{Verdict, number_of, code_of, OneAnswer}
 
 -- Document 01's table of refusals: number and word.
 abbrev pub refusals : List⁺ (ℕ × Verdict)
 refusals =
-    (1, Torn) ∷⁺
-    (2, Unknown) ∷⁺
-    (3, Misfit) ∷⁺
-    (4, Stranger) ∷⁺
-    (5, OffTheSheet) ∷⁺
-    (6, Absent) ∷⁺
-    (7, WrongSort) ∷⁺
-    (8, AlreadySo) ∷⁺
-    (9, NoAuthority) ∷⁺
-    (10, OwnGain) ∷⁺
-    (11, HandOver) ∷⁺
-    one (12, Orphan)
+    (1, Err Torn) ∷⁺
+    (2, Err Unknown) ∷⁺
+    (3, Err Misfit) ∷⁺
+    (4, Err Stranger) ∷⁺
+    (5, Err OffTheSheet) ∷⁺
+    (6, Err Absent) ∷⁺
+    (7, Err WrongSort) ∷⁺
+    (8, Err AlreadySo) ∷⁺
+    (9, Err NoAuthority) ∷⁺
+    (10, Err OwnGain) ∷⁺
+    (11, Err HandOver) ∷⁺
+    one (12, Err Orphan)
 
 -- The verdict of a row has its number, and that is not 0.
 abbrev numbered : ℕ × Verdict → Bool
@@ -41,7 +42,6 @@ all_numbered (one r) = numbered r
 all_numbered (r ∷⁺ rs) = numbered r && all_numbered rs
 
 all_numbered_told : all_numbered refusals ≡ true
-unfolding code_of
 all_numbered_told = refl
 
 module _ (p : Policy) (a : Answer) (o : OneAnswer p a) where
@@ -69,24 +69,26 @@ module _ (p : Policy) (a : Answer) (o : OneAnswer p a) where
   pub number_of_answer : Some 13 (λ n. code_of a.verdict ≡ n)
   number_of_answer = record { place = code_of a.verdict; low = omega (arith, o.numbered); at = refl }
 
--- The number 0 is that of Done and of DoneBy, and of no refusal.
-pub zero_of_done : (code_of Done ≡ 0) × ((i : ℕ) → code_of (DoneBy i) ≡ 0)
-unfolding code_of
+-- The number 0 is that of what is done, by a rule or by none, and of no refusal.
+pub zero_of_done : (code_of (Ok None) ≡ 0) × ((i : ℕ) → code_of (Ok (Option.Some i)) ≡ 0)
 zero_of_done = (refl, λ i. refl)
 
-pub done_of_zero : (v : Verdict) → code_of v ≡ 0 → (v ≡ Done) ⊎ ((i : ℕ) × (v ≡ DoneBy i))
-unfolding code_of
-done_of_zero Done e = inl refl
-done_of_zero (DoneBy i) e = inr (i, refl)
-done_of_zero Torn e = absurd (omega (arith, e))
-done_of_zero Unknown e = absurd (omega (arith, e))
-done_of_zero Misfit e = absurd (omega (arith, e))
-done_of_zero Stranger e = absurd (omega (arith, e))
-done_of_zero OffTheSheet e = absurd (omega (arith, e))
-done_of_zero Absent e = absurd (omega (arith, e))
-done_of_zero WrongSort e = absurd (omega (arith, e))
-done_of_zero AlreadySo e = absurd (omega (arith, e))
-done_of_zero NoAuthority e = absurd (omega (arith, e))
-done_of_zero OwnGain e = absurd (omega (arith, e))
-done_of_zero HandOver e = absurd (omega (arith, e))
-done_of_zero Orphan e = absurd (omega (arith, e))
+-- Every refusal has a number above 0.
+pub numbered_above : (r : Refusal) → 0 < number_of r
+numbered_above Torn = omega arith
+numbered_above Unknown = omega arith
+numbered_above Misfit = omega arith
+numbered_above Stranger = omega arith
+numbered_above OffTheSheet = omega arith
+numbered_above Absent = omega arith
+numbered_above WrongSort = omega arith
+numbered_above AlreadySo = omega arith
+numbered_above NoAuthority = omega arith
+numbered_above OwnGain = omega arith
+numbered_above HandOver = omega arith
+numbered_above Orphan = omega arith
+
+pub done_of_zero : (v : Verdict) → code_of v ≡ 0 → (v ≡ Ok None) ⊎ ((i : ℕ) × (v ≡ Ok (Option.Some i)))
+done_of_zero (Ok None) e = inl refl
+done_of_zero (Ok (Option.Some i)) e = inr (i, refl)
+done_of_zero (Err r) e = absurd (omega (arith, e, numbered_above r))

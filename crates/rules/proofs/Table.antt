@@ -6,19 +6,16 @@ use mathlib.Core.List.{List, [], ◌∷◌}
 use Prim.Native.Nat.{ℕ}
 use lib.Dec.{eqb}
 use Rattle.reach.specs.declared.Policy.{Policy}
-use Rattle.reach.specs.declared.Place.{Place}
-use Rattle.reach.specs.declared.Place.TheVariants.{At, Nothing}
 use Rattle.reach.specs.Tests.{◌⇒◌∥◌, Decides}
 use Rattle.reach.specs.Privileges.{permitting}
 use Rattle.reach.proofs.Testing.{decides_as}
 use Rattle.rules.specs.declared.Request.{Request}
 use Rattle.rules.specs.declared.Request.TheVariants.{Make, Put, Take, Appoint, Dismiss, Grant, Withdraw, Use}
-use Rattle.rules.specs.declared.Verdict.{Verdict}
 use Rattle.rules.specs.Records.{sender, request}
 use Rattle.rules.specs.Doing.{after}
 use Rattle.rules.specs.Refusals.{torn, unknown, misfit, stranger, off_the_sheet, absent, wrong_sort, already_so, no_authority, own_gain}
 use Rattle.rules.specs.Refusals.{hand_over, orphan}
-use Rattle.rules.specs.Judging.{code_of, done_by, done, verdict_on, verdict, accepted, judge, numbers_of, answers}
+use Rattle.rules.specs.Judging.{Verdict, code_of, done_by, done, verdict_on, verdict, accepted, judge, numbers_of, answers}
 
 -- Each check by its name.
 pub record Passed (p : Policy) (b : List ℕ) (u : ℕ) (q : Request) : Type 0 where
@@ -51,11 +48,7 @@ done_accepted p u (Appoint i k h a b) = refl
 done_accepted p u (Dismiss i) = refl
 done_accepted p u (Grant i v t o) = refl
 done_accepted p u (Withdraw i) = refl
-done_accepted p u (Use x k) = go (permitting p u k x)
-  where
-    go : (w : Place) → eqb (code_of (done_by w)) 0 ≡ true
-    go (At i) = refl
-    go Nothing = refl
+done_accepted p u (Use x k) = refl
 
 decides_on : (p : Policy) (b : List ℕ) (u : ℕ) (q : Request) → Decides (accepted (verdict_on p b u q)) (Passed p b u q)
 unfolding verdict_on

@@ -1,85 +1,82 @@
 -- The judge. [01:no.13] "Tested in order; the first that applies is returned, cited 255, sheet unchanged."
-use Rattle.std.specs.Prelude.{◌≡◌, Bool, List, [], ◌∷◌, ℕ, ◌≤◌, eqb}
+use Rattle.std.specs.Prelude.{◌≡◌, Bool, List, [], ◌∷◌, ℕ, ◌≤◌, eqb, Option, Some, None, Result, Ok, Err}
 use Rattle.reach.specs.declared.Policy.{Policy}
-use Rattle.reach.specs.declared.Place.{Place}
-use Rattle.reach.specs.declared.Place.TheVariants.{At, Nothing}
 use Rattle.reach.specs.Tests.{◌⇒◌∥◌}
 use Rattle.reach.specs.Privileges.{permitting}
 use Rattle.rules.specs.declared.Request.{Request}
 use Rattle.rules.specs.declared.Request.TheVariants.{Make, Put, Take, Appoint, Dismiss, Grant, Withdraw, Use}
-use Rattle.rules.specs.declared.Verdict.{Verdict}
-use Rattle.rules.specs.declared.Verdict.TheVariants.{Done, DoneBy, Torn, Unknown, Misfit, Stranger, OffTheSheet, Absent, WrongSort}
-use Rattle.rules.specs.declared.Verdict.TheVariants.{AlreadySo, NoAuthority, OwnGain, HandOver, Orphan}
+use Rattle.rules.specs.declared.Refusal.{Refusal}
+use Rattle.rules.specs.declared.Refusal.TheVariants.{Torn, Unknown, Misfit, Stranger, OffTheSheet, Absent, WrongSort, AlreadySo}
+use Rattle.rules.specs.declared.Refusal.TheVariants.{NoAuthority, OwnGain, HandOver, Orphan}
 use Rattle.rules.specs.declared.Answer.{Answer}
 use Rattle.rules.specs.Records.{sender, request}
 use Rattle.rules.specs.Doing.{after}
 use Rattle.rules.specs.Refusals.{torn, unknown, misfit, stranger, off_the_sheet, absent, wrong_sort, already_so, no_authority, own_gain}
 use Rattle.rules.specs.Refusals.{hand_over, orphan}
 
+-- The answer to a request: done, with the rule that permits an accepted USE, or a refusal. Rattle's alias of that name has none in antt.
+abbrev pub Verdict : Type 0
+Verdict = Result (Option ℕ) Refusal
+
+-- Document 01's number for each refusal, from its table.
+abbrev pub number_of : Refusal → ℕ
+number_of Torn = 1
+number_of Unknown = 2
+number_of Misfit = 3
+number_of Stranger = 4
+number_of OffTheSheet = 5
+number_of Absent = 6
+number_of WrongSort = 7
+number_of AlreadySo = 8
+number_of NoAuthority = 9
+number_of OwnGain = 10
+number_of HandOver = 11
+number_of Orphan = 12
+
 -- Document 01's number for each verdict: 0 done, else the refusal's number in the table.
 abbrev pub code_of : Verdict → ℕ
-code_of Done = 0
-code_of (DoneBy i) = 0
-code_of Torn = 1
-code_of Unknown = 2
-code_of Misfit = 3
-code_of Stranger = 4
-code_of OffTheSheet = 5
-code_of Absent = 6
-code_of WrongSort = 7
-code_of AlreadySo = 8
-code_of NoAuthority = 9
-code_of OwnGain = 10
-code_of HandOver = 11
-code_of Orphan = 12
+code_of (Ok by) = 0
+code_of (Err r) = number_of r
 
 -- [01:records.11] ".. and a cited rule: for an accepted USE the lowest permitting place, otherwise 255."
 abbrev pub cited_of : Verdict → ℕ
-cited_of Done = 255
-cited_of (DoneBy i) = i
-cited_of Torn = 255
-cited_of Unknown = 255
-cited_of Misfit = 255
-cited_of Stranger = 255
-cited_of OffTheSheet = 255
-cited_of Absent = 255
-cited_of WrongSort = 255
-cited_of AlreadySo = 255
-cited_of NoAuthority = 255
-cited_of OwnGain = 255
-cited_of HandOver = 255
-cited_of Orphan = 255
+cited_of (Ok (Some i)) = i
+cited_of (Ok None) = 255
+cited_of (Err r) = 255
 
 -- An accepted USE is done by the lowest place that permits it; a USE that has passed check 9 has one.
-abbrev pub done_by : Place → Verdict
-done_by (At i) = DoneBy i
-done_by Nothing = Done
+abbrev pub done_by : Option ℕ → Verdict
+done_by found = Ok found
 
 unfoldable pub done : Policy → ℕ → Request → Verdict
-done p u (Make i s g) = Done
-done p u (Put x g) = Done
-done p u (Take x g) = Done
-done p u (Appoint i k h a b) = Done
-done p u (Dismiss i) = Done
-done p u (Grant i v t o) = Done
-done p u (Withdraw i) = Done
+done p u (Make i s g) = Ok None
+done p u (Put x g) = Ok None
+done p u (Take x g) = Ok None
+done p u (Appoint i k h a b) = Ok None
+done p u (Dismiss i) = Ok None
+done p u (Grant i v t o) = Ok None
+done p u (Withdraw i) = Ok None
 done p u (Use x k) = done_by (permitting p u k x)
+
+-- One check: refused where it applies, and else passed.
+abbrev pub checked : Bool → Refusal → Result (Unit {0}) Refusal
+checked applies r = applies ⇒ Err r ∥ Ok tt
 
 -- The table of refusals, in its order: the verdict on the record b, sent by u, that asks for q.
 unfoldable pub verdict_on : Policy → List ℕ → ℕ → Request → Verdict
 verdict_on p b u q =
-    torn b ⇒ Torn ∥
-    unknown b ⇒ Unknown ∥
-    misfit b ⇒ Misfit ∥
-    stranger p u ⇒ Stranger ∥
-    off_the_sheet q ⇒ OffTheSheet ∥
-    absent p q ⇒ Absent ∥
-    wrong_sort p q ⇒ WrongSort ∥
-    already_so p q ⇒ AlreadySo ∥
-    no_authority p u q ⇒ NoAuthority ∥
-    own_gain p u q ⇒ OwnGain ∥
-    hand_over p u q ⇒ HandOver ∥
-    orphan p q ⇒ Orphan ∥
+    torn b ⇒ Err Torn ∥
+    unknown b ⇒ Err Unknown ∥
+    misfit b ⇒ Err Misfit ∥
+    stranger p u ⇒ Err Stranger ∥
+    off_the_sheet q ⇒ Err OffTheSheet ∥
+    absent p q ⇒ Err Absent ∥
+    wrong_sort p q ⇒ Err WrongSort ∥
+    already_so p q ⇒ Err AlreadySo ∥
+    no_authority p u q ⇒ Err NoAuthority ∥
+    own_gain p u q ⇒ Err OwnGain ∥
+    hand_over p u q ⇒ Err HandOver ∥
+    orphan p q ⇒ Err Orphan ∥
     done p u q
 
 unfoldable pub verdict : Policy → List ℕ → Verdict

@@ -156,4 +156,4 @@ returns c =
     (over_decides _
     (held_none _ e.asked.posts.owner e.asked.first (omega (arith, c.if-posts-object-ne0.false, same)))
     (c.hands_over.ensures _ _ _ refl refl e.asked.first e.asked.second)))
-    c.handed.ensures
+    c.if_so.ensures

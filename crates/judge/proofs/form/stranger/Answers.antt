@@ -4,4 +4,4 @@ use Rattle.judge.proofs.Sorting.{stranger_lent}
 use Rattle.judge.proofs.form.stranger.Goals as goal
 
 pub returns : goal.returns
-returns c = λ p k. rw (c.sort_in.ensures, sym (stranger_lent p k c.args.u))
+returns c = rw c.is_user.ensures (stranger_lent _ (sym c.objects.ensures.sorts) _)

@@ -5,7 +5,7 @@ use Prim.Native.Nat.{ℕ}
 use native.Mathlib.Omega.{arith}
 use Rattle.reach.specs.declared.Policy.{Policy}
 use Rattle.rules.specs.declared.Request.{Request}
-use Rattle.rules.specs.declared.Verdict.{Verdict}
+use Rattle.rules.specs.Judging.{Verdict}
 use Rattle.rules.specs.Records.{sender, request}
 use Rattle.rules.specs.Judging.{code_of, judge}
 use Rattle.gains.specs.declared.Gain.{Gain}

@@ -1,7 +1,8 @@
--- `direct` is its definition, by the contracts of what it calls.
-use Rattle.reach.specs.Reach.{direct}
+-- `direct` reads the two tables that are lent.
+use Rattle.reach.specs.Tables.{sort, stored}
+use Rattle.reach.specs.Reach.{in_use, direct}
 use Rattle.reach.proofs.Policy.direct.Goals as goal
 
 pub returns : goal.returns
-unfolding direct
-returns c = rw (c.stored.ensures, c.is_group.ensures, c.in_use.ensures)
+unfolding direct in_use stored sort
+returns c = rw (c.direct.ensures, c.objects.ensures.sorts, c.objects.ensures.memberships)

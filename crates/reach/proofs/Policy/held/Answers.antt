@@ -1,14 +1,18 @@
 -- Each answer is that of the policy's own question: the appointments are held against both climbs, if u is a user.
-use Rattle.reach.proofs.Holding.{direct_by, held_by}
+use mathlib.Core.Path.{◌∙◌}
+use Rattle.reach.proofs.Meeting.{user_by, direct_by}
+use Rattle.reach.proofs.Holding.{held_by}
 use Rattle.reach.proofs.Policy.held.Goals as goal
 
 pub returns : goal.returns
 returns c =
+    let sorts = c.objects-objects.ensures.sorts in
+    let memberships = c.objects-objects.ensures.memberships in
     held_by _ _ _ _
-    c.sort_in-user.ensures
+    (user_by _ _ (rw sorts at c.is_user-user.ensures))
     c.given_to-given.ensures.0
     c.given_to-given.ensures.1
-    c.climb-over_x.ensures
-    c.climb-over_y.ensures
+    (rw (sorts, memberships) at c.above-over_x.ensures)
+    (rw (sorts, memberships) at c.above-over_y.ensures)
     c.given_to-given.ensures.2
-    (direct_by _ _ _ _ _ _ c.sort_in-used.ensures c.sort_in-group.ensures c.row.ensures c.has.ensures)
+    (rw (sorts, memberships) at c.direct.ensures ∙ direct_by _ _ _)

@@ -1,5 +1,7 @@
--- `is_group` is its definition, by the contract of `sort`.
+-- `is_group` reads the sorts that are lent.
+use Rattle.reach.specs.Tables.{sort}
 use Rattle.reach.proofs.Policy.is_group.Goals as goal
 
 pub returns : goal.returns
-returns c = rw c.sort.ensures
+unfolding sort
+returns c = rw (c.is_group.ensures, c.objects.ensures.sorts)

@@ -1,5 +1,7 @@
--- `is_user` is its definition, by the contract of `sort`.
+-- `is_user` reads the sorts that are lent.
+use Rattle.reach.specs.Tables.{sort}
 use Rattle.reach.proofs.Policy.is_user.Goals as goal
 
 pub returns : goal.returns
-returns c = rw c.sort.ensures
+unfolding sort
+returns c = rw (c.is_user.ensures, c.objects.ensures.sorts)

@@ -1,21 +1,24 @@
 -- The lowest rule with his groups and the groups of x, where there can be a permission at all.
-use mathlib.Core.Path.{sym, ◌∙◌}
+use mathlib.Core.Path.{◌≡◌, sym, ◌∙◌}
 use Rattle.reach.proofs.Deciding.{permitting_not}
 use Rattle.reach.proofs.Meeting.{askable_by, climbed, covering_is}
 use Rattle.reach.proofs.Policy.permitting.Goals as goal
 
-pub returns-then-not-user-target : goal.returns-then-not-user-target
-returns-then-not-user-target c =
+pub returns-then-not-is_user-is_target : goal.returns-then-not-is_user-is_target
+returns-then-not-is_user-is_target c =
+    let sorts = c.objects-objects.ensures.sorts in
     permitting_not _ _ _ _
-    (sym (askable_by _ _ _ _ _ _ c.sort_in-user.ensures c.sort_in-target.ensures)
-    ∙ c.if-not-user-target.true)
+    (sym (askable_by _ _ _ _ (rw sorts at c.is_user.ensures) (rw sorts at c.is_target.ensures))
+    ∙ c.if-not-is_user-is_target.true)
 
 pub returns : goal.returns
 returns c =
+    let sorts = c.objects-objects.ensures.sorts in
+    let memberships = c.objects-objects.ensures.memberships in
     c.covering.ensures
     ∙ covering_is _
-    (climbed _ c.climb-users.ensures)
+    (climbed _ (rw (sorts, memberships) at c.above.ensures))
     _
-    (climbed _ c.climb-targets.ensures)
-    (sym (askable_by _ _ _ _ _ _ c.sort_in-user.ensures c.sort_in-target.ensures)
-    ∙ c.if-not-user-target.false)
+    (climbed _ (rw (sorts, memberships) at c.above-2.ensures))
+    (sym (askable_by _ _ _ _ (rw sorts at c.is_user.ensures) (rw sorts at c.is_target.ensures))
+    ∙ c.if-not-is_user-is_target.false)

@@ -1,15 +1,15 @@
 -- Each of the four is that of the policy's own question.
-use native.Mathlib.Omega.{arith}
-use Rattle.reach.proofs.WordSets.{set_at}
-use Rattle.reach.proofs.Meeting.{climbed}
-use Rattle.reach.proofs.Holding.{direct_by}
+use mathlib.Core.Path.{◌∙◌}
+use Rattle.reach.proofs.Meeting.{climbed, direct_by}
 use Rattle.reach.proofs.Policy.placing.Goals as goal
 
 pub returns : goal.returns
 returns c =
+    let sorts = c.objects-objects.ensures.sorts in
+    let memberships = c.objects-objects.ensures.memberships in
     record {
-      posts = c.posts-posts.ensures;
-      first = set_at (omega arith) (climbed _ c.climb-first.ensures);
-      second = set_at (omega arith) (climbed _ c.climb-second.ensures);
-      is_direct = direct_by _ _ _ _ _ _ c.sort_in-used.ensures c.sort_in-into.ensures (omega (arith, c.row.ensures)) c.has.ensures;
+      posts = c.posts.ensures;
+      first = climbed _ (rw (sorts, memberships) at c.above.ensures);
+      second = climbed _ (rw (sorts, memberships) at c.above-2.ensures);
+      is_direct = rw (sorts, memberships) at c.direct.ensures ∙ direct_by _ _ _;
     }

@@ -1,12 +1,7 @@
--- `sort` is its definition: on the table by the contract of `counted`, past it by the other case.
-use borrow.Author.Tests.{lt-ltb, le-ltb}
+-- `sort` reads the sorts that are lent.
 use Rattle.reach.specs.Tables.{sort}
 use Rattle.reach.proofs.Policy.sort.Goals as goal
 
-pub returns-then-i-lt64 : goal.returns-then-i-lt64
+pub returns : goal.returns
 unfolding sort
-returns-then-i-lt64 c = rw (c.counted.ensures, lt-ltb _ _ c.if-i-lt64.true)
-
-pub returns-else-i-lt64 : goal.returns-else-i-lt64
-unfolding sort
-returns-else-i-lt64 c = rw (le-ltb _ _ c.if-i-lt64.false)
+returns c = rw (c.sort.ensures, c.objects.ensures.sorts)

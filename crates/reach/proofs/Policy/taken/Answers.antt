@@ -1,24 +1,16 @@
--- On the table the machine's word is the set without g, and past it nothing changes.
-use borrow.Author.Tests.{lt-ltb, le-ltb}
-use lib.ListN.{get_or}
-use mir.Syntax.{w64}
-use mir.Val.{Fits}
-use Rattle.reach.specs.Successors.{taken}
-use Rattle.reach.proofs.OneBit.{and_is_without}
-use Rattle.std.proofs.Common.{rules}
+-- The table without the membership, and all else as it was.
+use mathlib.Core.Bool.{Bool, true, false}
+use mathlib.Core.Path.{◌≡◌, refl}
+use Rattle.reach.specs.declared.Policy.{Policy}
+use Rattle.reach.specs.Tests.{◌⇒◌∥◌}
+use Rattle.reach.specs.Successors.{on_table, with_members, remove_from, taken}
 use Rattle.reach.proofs.Policy.taken.Goals as goal
 
-pub returns-then-g-lt64 : goal.returns-then-g-lt64
+pub returns : goal.returns
 unfolding taken
-returns-then-g-lt64 c =
-    let a = c.args in
-    let fits : Fits w64 (get_or a.self.memberships a.x 0) = search rules in
-    rw (lt-ltb _ _ c.if-x-lt64.true, lt-ltb _ _ c.if-g-lt64.true, and_is_without a.g (get_or a.self.memberships a.x 0) (search rules) fits.fits)
-
-pub returns-else-g-lt64 : goal.returns-else-g-lt64
-unfolding taken
-returns-else-g-lt64 c = rw (lt-ltb _ _ c.if-x-lt64.true, le-ltb _ _ c.if-g-lt64.false)
-
-pub returns-else-x-lt64 : goal.returns-else-x-lt64
-unfolding taken
-returns-else-x-lt64 c = rw (le-ltb _ _ c.if-x-lt64.false)
+returns c =
+    let a = c.args in rw c.take_out.ensures (go a.self (on_table a.x a.g))
+  where
+    go : (p : Policy) (t : Bool) → with_members p (t ⇒ remove_from p.memberships c.args.x c.args.g ∥ p.memberships) ≡ (t ⇒ with_members p (remove_from p.memberships c.args.x c.args.g) ∥ p)
+    go p true = refl
+    go p false = refl

@@ -5,7 +5,6 @@ use lib.Count.{count_trailing_zeros}
 use Rattle.reach.specs.Words.{bit}
 use Rattle.reach.proofs.Bits.{lowest_bit}
 use Rattle.reach.proofs.Marking.{mark_start, mark_less, mark_step, seen_set_start, seen_set_step, seen_set_end}
-use Rattle.reach.proofs.Testing.{decides_number}
 use Rattle.reach.proofs.Posting.{owner_posted}
 use Rattle.std.proofs.Common.{rules}
 use Rattle.reach.proofs.appointments.owners_from.Goals.{In-loop-left}
@@ -57,8 +56,7 @@ loop-left-preserved c =
     let h = count_trailing_zeros 32 l.left in (
       mark_step l.invariant.0 h low.1,
       seen_set_step _ l.invariant.0 h low.1 l.invariant.1
-          (owner_posted _ (l.invariant.0.holds h low.1) c.sort_in.ensures c.just.ensures c.only_if-set.ensures
-          (decides_number _ _ 2 (omega arith))),
+          (owner_posted _ (l.invariant.0.holds h low.1) c.is_user.ensures c.just.ensures c.only_if-set.ensures),
     )
 
 pub returns : goal.returns

@@ -11,7 +11,7 @@ use Rattle.reach.proofs.appointments.owners_from.Given as goal
 abbrev pub invariant-loop-left : goal.invariant-loop-left
 invariant-loop-left l =
     Marked (λ j. (get_or l.appointments j no_appointment).kind ≡ owner) l.left
-    × SeenSet (λ j a. (a < 64) × OwnersA l.sorts (get_or l.appointments j no_appointment) a) l.left l.set
+    × SeenSet (λ j a. (a < 64) × OwnersA l.objects.sorts.now (get_or l.appointments j no_appointment) a) l.left l.set
 
 abbrev pub decreases-loop-left : goal.decreases-loop-left
 decreases-loop-left l = l.left

@@ -57,22 +57,22 @@ bounds-sorts-h c =
     let low = lowest (goal.at.bounds-sorts-h c).In-loop-rest in
     low.0
 
-pub loop-rest-smaller-then-sorts-h-eq1 : goal.loop-rest-smaller-then-sorts-h-eq1
-loop-rest-smaller-then-sorts-h-eq1 c =
-    let low = lowest (goal.at.loop-rest-smaller-then-sorts-h-eq1 c).In-loop-rest in
+pub loop-rest-smaller-then-sorts-h : goal.loop-rest-smaller-then-sorts-h
+loop-rest-smaller-then-sorts-h c =
+    let low = lowest (goal.at.loop-rest-smaller-then-sorts-h c).In-loop-rest in
     let less : bit_and c.loop-rest.rest (2 ^ 64 - 1 - (1 * 2 ^ count_trailing_zeros 64 c.loop-rest.rest) % 2 ^ 64) < c.loop-rest.rest = left_less c.loop-rest.invariant.0.rest_word (count_trailing_zeros 64 c.loop-rest.rest) low.1 in
     less
 
-pub loop-rest-preserved-then-sorts-h-eq1 : goal.loop-rest-preserved-then-sorts-h-eq1
-loop-rest-preserved-then-sorts-h-eq1 c =
-    let low = lowest (goal.at.loop-rest-preserved-then-sorts-h-eq1 c).In-loop-rest in
+pub loop-rest-preserved-then-sorts-h : goal.loop-rest-preserved-then-sorts-h
+loop-rest-preserved-then-sorts-h c =
+    let low = lowest (goal.at.loop-rest-preserved-then-sorts-h c).In-loop-rest in
     let l = c.loop-rest in
     let h = count_trailing_zeros 64 l.rest in
     let e = l.invariant.0.within h low.1 in (
       round_freed l.invariant.0 h low.1 (set_or (set_bits l.groups l.invariant.0.groups_word) (set_one h low.0)).word,
       λ set k.
           let n = l.invariant.1 set k in
-          look_freed n h e (grown_group n h low.0 c.if-sorts-h-eq1.true (look_through n h (n.waiting h e).0 (meets n h c.if-memberships-h-eq0.false))),
+          look_freed n h e (grown_group n h low.0 c.if-sorts-h.true (look_through n h (n.waiting h e).0 (meets n h c.if-memberships-h-eq0.false))),
     )
 
 pub loop-rest-smaller : goal.loop-rest-smaller
@@ -90,7 +90,7 @@ loop-rest-preserved c =
       round_freed l.invariant.0 h low.1 l.invariant.0.groups_word,
       λ set k.
           let n = l.invariant.1 set k in
-          look_freed n h e (grown_other n h c.if-sorts-h-eq1.false (look_through n h (n.waiting h e).0 (meets n h c.if-memberships-h-eq0.false))),
+          look_freed n h e (grown_other n h c.if-sorts-h.false (look_through n h (n.waiting h e).0 (meets n h c.if-memberships-h-eq0.false))),
     )
 
 pub returns : goal.returns
