@@ -6,8 +6,8 @@ use Prim.Native.Nat.{ℕ, ◌≤◌, ◌<◌}
 use lib.ListN.{length, set}
 use borrow.Author.Tests.{eq-eqb, ne_eqb, le-leb, lt-leb}
 use Rattle.reach.specs.declared.Policy.{Policy}
-use Rattle.gains.specs.declared.Gain.{Gain}
-use Rattle.gains.specs.declared.Gain.TheVariants.{Permission, Nothing}
+use Rattle.std.specs.Prelude.{Option, Some, None}
+use Rattle.gains.specs.declared.Permission.{Permission}
 use Rattle.judge.specs.Telling.{OwnGainOf}
 use Rattle.text.specs.Text.{Bytes}
 use Rattle.export.specs.Picture.{policy_of}
@@ -17,7 +17,7 @@ use Rattle.export.proofs.Storing.{sets_front}
 module _ (picture bytes buffer : Bytes) where
   untold : gain_fits picture buffer ≡ false → GainTold picture bytes buffer buffer 0
   untold short =
-      record { gain = Nothing; told = λ fits. absurd (true≢false (sym fits ∙ short)); written = rw short; count = rw short }
+      record { gain = None; told = λ fits. absurd (true≢false (sym fits ∙ short)); written = rw short; count = rw short }
 
   pub no_picture : (length picture ≡ 960 → ⊥) → GainTold picture bytes buffer buffer 0
   no_picture other = untold (rw (ne_eqb (length picture) 960 other))
@@ -25,7 +25,7 @@ module _ (picture bytes buffer : Bytes) where
   pub no_room : length picture ≡ 960 → length buffer < 2 → GainTold picture bytes buffer buffer 0
   no_room long h = untold (rw (eq-eqb (length picture) 960 long, lt-leb 2 (length buffer) h))
 
-  module _ (p : Policy) (g : Gain) (long : length picture ≡ 960) (h : 2 ≤ length buffer)
+  module _ (p : Policy) (g : Option Permission) (long : length picture ≡ 960) (h : 2 ≤ length buffer)
       (e : p ≡ policy_of picture) (s : OwnGainOf p bytes g) where
     fits : gain_fits picture buffer ≡ true
     fits = rw (eq-eqb (length picture) 960 long, le-leb 2 (length buffer) h)
@@ -33,20 +33,20 @@ module _ (picture bytes buffer : Bytes) where
     shown : OwnGainOf (policy_of picture) bytes g
     shown = subst (λ (p : Policy). OwnGainOf p bytes g) e s
 
-    pub tells_none : g ≡ Nothing → GainTold picture bytes buffer buffer 0
+    pub tells_none : g ≡ None → GainTold picture bytes buffer buffer 0
     tells_none none =
         record {
-          gain = Nothing;
+          gain = None;
           told = λ _. subst (OwnGainOf (policy_of picture) bytes) none shown;
           written = rw fits;
           count = rw fits;
         }
 
-    pub tells : (x k first second : ℕ) → g ≡ Permission x k → first ≡ x → second ≡ k
+    pub tells : (x k first second : ℕ) → g ≡ Some (record { target = x; operation = k }) → first ≡ x → second ≡ k
         → GainTold picture bytes buffer (set (set buffer 0 first) 1 second) 2
     tells x k first second one target operation =
         record {
-          gain = Permission x k;
+          gain = Some (record { target = x; operation = k });
           told = λ _. subst (OwnGainOf (policy_of picture) bytes) one shown;
           written = rw (fits, target, operation) (sets_front buffer (x ∷ k ∷ []) h);
           count = rw fits;

@@ -21,7 +21,7 @@ mod reading;
 
 use drawing::put_policy;
 use frame::count_steps;
-use gains::Gain;
+use gains::Permission;
 use judge::{cited_of, code_of, judge, own_gain_of};
 pub use questions::{
     selkaum_above, selkaum_administered, selkaum_below, selkaum_initial, selkaum_managed,
@@ -115,12 +115,12 @@ pub extern "C" fn selkaum_gain(policy: &[u8], bytes: &[u8], gain: &mut [u8]) -> 
         return 0;
     }
     match own_gain_of(policy_of(policy), bytes) {
-        Gain::Permission(target, operation) => {
+        Some(Permission { target, operation }) => {
             gain[0] = target;
             gain[1] = operation;
             2
         }
-        Gain::Nothing => 0,
+        None => 0,
     }
 }
 

@@ -10,8 +10,8 @@ use Rattle.reach.specs.Reach.{InUse}
 use Rattle.reach.specs.Privileges.{Permitted}
 use Rattle.rules.specs.declared.Request.{Request}
 use Rattle.rules.specs.Doing.{after}
-use Rattle.gains.specs.declared.Gain.{Gain}
-use Rattle.gains.specs.declared.Gain.TheVariants.{Permission, Nothing}
+use Rattle.gains.specs.declared.Permission.{Permission}
+use Rattle.std.proofs.Common.{Option, Some, None}
 use Rattle.gains.specs.Searching.{New, FirstNew}
 use Rattle.gains.proofs.News.{new_at, at_new}
 use Rattle.gains.specs.Giving.{ComesToUse, FirstPermission}
@@ -29,10 +29,10 @@ module _ (p : Policy) (u : ℕ) (q : Request) where
     new : {x k : ℕ} → ComesToUse p u q x k → New (get_or had k 0) (get_or got k 0) x
     new {x} {k} w = at_new (h.row k w.has.number) (g.row k w.has.number) ((w.there, w.has), w.lacked)
 
-    pub first_permission : (r : Gain) → FirstNew had got r → FirstPermission p u q r
-    first_permission (Permission x k) f = (
+    pub first_permission : (r : Option Permission) → FirstNew had got r → FirstPermission p u q r
+    first_permission (Some w) f = (
       comes f.0 f.1,
-      λ y j l w. f.2 y j l w.has.number (new w),
-      λ j l w. f.3 j l (new w),
+      λ y j l c. f.2 y j l c.has.number (new c),
+      λ j l c. f.3 j l (new c),
     )
-    first_permission Nothing f = λ y j w. f y j w.has.number (new w)
+    first_permission None f = λ y j w. f y j w.has.number (new w)

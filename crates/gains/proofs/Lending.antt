@@ -1,44 +1,43 @@
 -- What the lent tables and the sender's appointments tell of the policy whose tables they are.
-use mathlib.Core.Path.{◌≡◌, sym, ap, ◌∙◌, subst}
+use mathlib.Core.Path.{◌≡◌, refl}
 use mathlib.Core.Bool.{Bool, not}
 use mathlib.Core.List.{List}
 use Prim.Native.Nat.{ℕ, ◌-◌, ◌^◌}
 use lib.Bits.{bit_and}
-use lib.Dec.{eqb}
+use lib.Dec.{eqb, ltb}
 use lib.ListN.{get_or}
 use borrow.Author.Tests.{eq-eqb}
 use Rattle.reach.specs.declared.Policy.{Policy}
-use Rattle.reach.specs.declared.Appointment.{Appointment}
 use Rattle.reach.specs.Words.{SetOf}
 use Rattle.reach.specs.Tests.{Some, Decides}
-use Rattle.reach.specs.Tables.{no_appointment, view}
-use Rattle.reach.specs.Reach.{InUse, itself}
+use Rattle.reach.specs.Tables.{sort_in, sort, no_appointment, view}
+use Rattle.reach.specs.Reach.{InUse, Group, User, itself}
 use Rattle.reach.specs.Privileges.{Holds, Administers}
 use Rattle.reach.specs.Asking.{UnderBy, HeldOver, CoversPair}
-use Rattle.reach.proofs.Testing.{decides_as, decides_at, decides_not}
+use Rattle.reach.proofs.Testing.{decides_as, decides_at, decides_not, decides_ltb}
 use Rattle.reach.proofs.WordSets.{set_as, set_at, set_bits, set_mask, set_not, set_empty, set_lowest}
 use Rattle.reach.proofs.Reaching.{under_lower, under_upper}
 use Rattle.reach.proofs.Chains.{in_use_below}
-use Rattle.reach.proofs.AsRead.{appointment_is}
 use Rattle.reach.proofs.Deciding.{administers_decides}
-use Rattle.reach.proofs.Meeting.{climbed, meet_holds, holds_meet, pair_covered}
+use Rattle.reach.proofs.Meeting.{read_user, read_group, climbed, meet_holds, holds_meet, pair_covered}
 use Rattle.gains.specs.Lacking.{Above, Opened}
-use Rattle.gains.specs.Lending.{Lent, Heard}
 use Rattle.gains.proofs.Searched.{decides_empty}
 
 -- What is climbed on the lent tables is what the object is under.
-pub climbed_lent : (p : Policy) {sorts memberships : List ℕ} {x r : ℕ} → Lent p sorts memberships
+pub above_by : (p : Policy) {sorts memberships : List ℕ} {x r : ℕ} → sorts ≡ p.sorts → memberships ≡ p.memberships
     → SetOf r (λ g. UnderBy sorts memberships x g) → Above p x r
-climbed_lent p {sorts} {memberships} {x} {r} k s =
-    climbed p
-    (subst
-    (λ (m : List ℕ). SetOf r (λ g. UnderBy p.sorts m x g))
-    (sym k.memberships)
-    (subst (λ (l : List ℕ). SetOf r (λ g. UnderBy l memberships x g)) (sym k.sorts) s))
+above_by p e f s = climbed p (rw (e, f) at s)
 
--- A place of the handed table is that of the policy.
-pub appointment_lent : (p : Policy) {l : List Appointment} → p.appointments ≡ l → (i : ℕ) → (view p).appointment i ≡ get_or l i no_appointment
-appointment_lent p e i = appointment_is p i ∙ ap (λ (m : List Appointment). get_or m i no_appointment) e
+-- So is it asked of them whether somebody is a user, and whether an object is a group.
+pub user_lent : (p : Policy) (u : ℕ) {sorts : List ℕ} {t : Bool} → sorts ≡ p.sorts → t ≡ eqb (sort_in sorts u) 2 → Decides t (User (view p) u)
+user_lent p u e q = decides_at (rw e at q) (read_user p u refl)
+
+pub group_lent : (p : Policy) (g : ℕ) {sorts : List ℕ} {t : Bool} → sorts ≡ p.sorts → t ≡ eqb (sort_in sorts g) 1 → Decides t (Group (view p) g)
+group_lent p g e q = decides_at (rw e at q) (read_group p g refl)
+
+pub used_lent : (p : Policy) (x : ℕ) {sorts : List ℕ} {t : Bool} → sorts ≡ p.sorts → t ≡ ltb 0 (sort_in sorts x) → Decides t (InUse (view p) x)
+unfolding sort
+used_lent p x e q = decides_at (rw e at q) (decides_ltb 0 _)
 
 -- What is above g and not above x, as a set.
 pub opened_set : (p : Policy) {x g object group : ℕ} → Above p x object → Above p g group
@@ -57,19 +56,11 @@ pub above_some : (p : Policy) {x r : ℕ} → Above p x r → (r ≡ 0 → ⊥) 
 above_some p s n = under_lower (set_lowest s n).1
 
 -- No one appointment of his covers the pair exactly if he does not administer it.
-pub pair_lacked : (p : Policy) {sorts memberships : List ℕ} {l : List Appointment} {u a b first second one other : ℕ}
-    {t : Bool} → Heard p sorts memberships l u → Above p a first → Above p b second
-    → Decides t (Some 32 (λ i. CoversPair (get_or l i no_appointment) u one other)) → one ≡ first → other ≡ second
+pub pair_lacked : (p : Policy) {u a b first second one other : ℕ} {t : Bool} → User (view p) u → Above p a first → Above p b second
+    → Decides t (Some 32 (λ i. CoversPair (get_or p.appointments i no_appointment) u one other)) → one ≡ first → other ≡ second
     → Decides (not t) (Administers (view p) u a b → ⊥)
-pair_lacked p {u = u} {a = a} {b = b} {one = one} {other = other} {t = t} k o s d e f =
-    decides_not _
-    (decides_at
-    (pair_covered p k.user (set_at e o) t (set_at f s)
-    (subst
-    (λ (w : List Appointment). Decides t (Some 32 (λ i. CoversPair (get_or w i no_appointment) u one other)))
-    (sym k.appointments)
-    d))
-    (administers_decides p u a b))
+pair_lacked p {u = u} {a = a} {b = b} {t = t} user o s d e f =
+    decides_not _ (decides_at (pair_covered p user (set_at e o) t (set_at f s) d) (administers_decides p u a b))
 
 -- Nothing that he is appointed over in that way is above x, exactly if he does not hold x in that way.
 pub held_lacked : (p : Policy) {kind u x held above : ℕ} → SetOf held (HeldOver (view p) kind u) → Above p x above

@@ -19,3 +19,4 @@ pub mod Lending
 pub mod PutSides
 pub mod Covering
 pub mod Verdicts
+pub mod Calls

@@ -5,31 +5,32 @@ use mathlib.Core.Logic.{◌⊎◌, inl, inr, ⊎_elim}
 use mathlib.Core.Bool.{Bool}
 use mathlib.Core.List.{List}
 use Prim.Native.Nat.{ℕ, ◌-◌, ◌^◌, ◌<◌}
-use native.Mathlib.Omega.{arith}
 use lib.Bits.{bit_and, bit_or}
-use borrow.Author.Tests.{eqb-true, eq-eqb}
 use lib.ListN.{get_or}
 use Rattle.reach.specs.declared.Policy.{Policy}
 use Rattle.reach.specs.declared.Appointment.{Appointment}
 use Rattle.reach.specs.Words.{bit, SetOf}
 use Rattle.reach.specs.Tests.{Some, Decides}
-use Rattle.reach.specs.Tables.{no_appointment, view}
+use Rattle.reach.specs.Tables.{sort_in, sort, no_appointment, view}
 use Rattle.reach.specs.Reach.{User, Under}
 use Rattle.reach.specs.Privileges.{owner, manager, Holds, Owns}
 use Rattle.reach.proofs.Bits.{or_bit, bit_of_or}
 use Rattle.reach.proofs.Testing.{decides_as, some_map}
 use Rattle.reach.proofs.WordSets.{set_bits, set_mask, set_not}
-use Rattle.reach.proofs.Sorts.{decides_sort}
+use Rattle.reach.proofs.AsRead.{appointment_is}
 use Rattle.reach.proofs.Deciding.{user_below}
 use Rattle.gains.specs.Lacking.{Above, LacksHeld, SomeLacks, LacksOver, HolderOf}
-use Rattle.gains.proofs.Lending.{appointment_lent}
 
 -- All who hold an appointment of that kind whose A is in the set.
 abbrev pub HoldersIn : List Appointment → ℕ → ℕ → ℕ → Type 0
 HoldersIn l kind over s = SetOf s (λ u. Some 32 (λ i. (u < 64) × HolderOf (get_or l i no_appointment) kind over u))
 
-module _ (p : Policy) {l : List Appointment} (read : p.appointments ≡ l) (kind : ℕ) where
-  module _ {y over s : ℕ} (o : Above p y over) (h : HoldersIn l kind over s) {u : ℕ} (user : User (view p) u) where
+pub holders_at : (l : List Appointment) (kind over : ℕ) {k o s : ℕ} → HoldersIn l k o s → k ≡ kind → o ≡ over → HoldersIn l kind over s
+holders_at l kind over {k} {s = s} h e f =
+    subst (λ (n : ℕ). HoldersIn l n over s) e (subst (λ (n : ℕ). HoldersIn l k n s) f h)
+
+module _ (p : Policy) (kind : ℕ) where
+  module _ {y over s : ℕ} (o : Above p y over) (h : HoldersIn p.appointments kind over s) {u : ℕ} (user : User (view p) u) where
     holder_holds : bit s u ≡ 1 → Holds (view p) kind u y
     holder_holds b =
         record {
@@ -37,7 +38,7 @@ module _ (p : Policy) {l : List Appointment} (read : p.appointments ≡ l) (kind
           by =
               some_map
               (λ i v.
-              let e = sym (appointment_lent p read i) in
+              let e = sym (appointment_is p i) in
               record {
                 is_kind = ap (λ (w : Appointment). w.kind) (sym e) ∙ v.1.is_kind;
                 is_holder = ap (λ (w : Appointment). w.holder) (sym e) ∙ v.1.is_holder;
@@ -51,7 +52,7 @@ module _ (p : Policy) {l : List Appointment} (read : p.appointments ≡ l) (kind
         h.all u
         (some_map
         (λ i v.
-        let e = appointment_lent p read i in (
+        let e = appointment_is p i in (
           user_below p u user,
           record {
             is_kind = ap (λ (w : Appointment). w.kind) (sym e) ∙ v.is_kind;
@@ -61,7 +62,7 @@ module _ (p : Policy) {l : List Appointment} (read : p.appointments ≡ l) (kind
         ))
         w.by)
 
-  module _ {x g object group a b : ℕ} (o : Above p x object) (s : Above p g group) (h : HoldersIn l kind group a) (k : HoldersIn l kind object b) {u : ℕ}
+  module _ {x g object group a b : ℕ} (o : Above p x object) (s : Above p g group) (h : HoldersIn p.appointments kind group a) (k : HoldersIn p.appointments kind object b) {u : ℕ}
       (user : User (view p) u) where
     pub lacks_of : bit (bit_and a (2 ^ 64 - 1 - b)) u ≡ 1 → LacksHeld (view p) kind u x g
     lacks_of c =
@@ -75,46 +76,31 @@ module _ (p : Policy) {l : List Appointment} (read : p.appointments ≡ l) (kind
           (user_below p u user, λ c. l.lacks (holder_holds o k user c)),
         )
 
-module _ (p : Policy) {appointments : List Appointment} (read : p.appointments ≡ appointments) {x g object group a b c d : ℕ}
-    (o : Above p x object) (s : Above p g group) (h : HoldersIn appointments 1 group a) (k : HoldersIn appointments 1 object b)
-    (i : HoldersIn appointments 2 group c) (j : HoldersIn appointments 2 object d) where
+module _ (p : Policy) {x g object group a b c d : ℕ}
+    (o : Above p x object) (s : Above p g group) (h : HoldersIn p.appointments 1 group a) (k : HoldersIn p.appointments 1 object b)
+    (i : HoldersIn p.appointments 2 group c) (j : HoldersIn p.appointments 2 object d) where
   some_set : {u : ℕ} → User (view p) u → (LacksHeld (view p) owner u x g ⊎ LacksHeld (view p) manager u x g)
       → bit (bit_or (bit_and a (2 ^ 64 - 1 - b)) (bit_and c (2 ^ 64 - 1 - d))) u ≡ 1
   some_set {u} user w =
-      bit_of_or _ _ u (⊎_elim (λ l. inl (of_lacks p read 1 o s h k user l)) (λ l. inr (of_lacks p read 2 o s i j user l)) w)
+      bit_of_or _ _ u (⊎_elim (λ l. inl (of_lacks p 1 o s h k user l)) (λ l. inr (of_lacks p 2 o s i j user l)) w)
 
   lacks_user : {u : ℕ} → (LacksHeld (view p) owner u x g ⊎ LacksHeld (view p) manager u x g) → User (view p) u
   lacks_user w = ⊎_elim (λ l. l.has.user) (λ l. l.has.user) w
 
   -- Some one of the set is a user, exactly if some user holds the group and not the object.
-  pub some_lacks : {l : List ℕ} {set : ℕ} {t : Bool} → p.sorts ≡ l → Decides t (Some 64 (λ u. (bit set u ≡ 1) × (get_or l u 0 ≡ 2)))
+  pub some_lacks : {set : ℕ} {t : Bool} → Decides t (Some 64 (λ u. (bit set u ≡ 1) × (sort_in p.sorts u ≡ 2)))
       → set ≡ bit_or (bit_and a (2 ^ 64 - 1 - b)) (bit_and c (2 ^ 64 - 1 - d)) → Decides t (SomeLacks (view p) x g)
-  some_lacks {l} e m f =
+  unfolding sort
+  some_lacks m f =
       decides_as
       m
-      (λ w.
-      let user = byte_user _ w in
-      record {
-        place = w.place;
-        low = w.low;
-        at =
-            ⊎_elim
-            (λ q. inl (lacks_of p read 1 o s h k user q))
-            (λ q. inr (lacks_of p read 2 o s i j user q))
-            (or_bit _ _ w.place (ap (λ (n : ℕ). bit n w.place) (sym f) ∙ w.at.0));
-      })
-      (some_map (λ u q. (ap (λ (n : ℕ). bit n u) f ∙ some_set (lacks_user q) q, user_byte u (lacks_user q))))
-    where
-      byte_user : (s : ℕ) (w : Some 64 (λ u. (bit s u ≡ 1) × (get_or l u 0 ≡ 2))) → User (view p) w.place
-      byte_user s w =
-          (decides_sort p w.place 2 w.low (omega arith) (omega arith)
-          ).sound
-          (eq-eqb _ _ (ap (λ (t : List ℕ). get_or t w.place 0) e ∙ w.at.1))
-
-      user_byte : (u : ℕ) → User (view p) u → get_or l u 0 ≡ 2
-      user_byte u user =
-          ap (λ (t : List ℕ). get_or t u 0) (sym e)
-          ∙ eqb-true _ _ ((decides_sort p u 2 (user_below p u user) (omega arith) (omega arith)).complete user)
+      (some_map
+      (λ u q.
+      ⊎_elim
+      (λ r. inl (lacks_of p 1 o s h k q.1 r))
+      (λ r. inr (lacks_of p 2 o s i j q.1 r))
+      (or_bit _ _ u (ap (λ (n : ℕ). bit n u) (sym f) ∙ q.0))))
+      (some_map (λ u q. (ap (λ (n : ℕ). bit n u) f ∙ some_set (lacks_user q) q, lacks_user q)))
 
 -- Where u does not own the object, that is all that hand-over asks.
 pub over_decides : (p : Policy) {u x g : ℕ} {t : Bool} → (Owns (view p) u x → ⊥) → Decides t (SomeLacks (view p) x g)

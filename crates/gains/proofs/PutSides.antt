@@ -2,7 +2,6 @@
 -- in use and not under the B of any appointment of his whose A is above x; or the same with the sides exchanged.
 use mathlib.Core.Path.{◌≡◌, refl, sym, ap, subst, ◌∙◌}
 use mathlib.Core.Bool.{not}
-use mathlib.Core.List.{List}
 use mathlib.Core.Logic.{◌⊎◌, inl, inr, ⊎_elim}
 use Prim.Native.Nat.{ℕ, ◌-◌, ◌^◌, ◌<◌}
 use lib.Bits.{bit_and, bit_or}
@@ -13,65 +12,47 @@ use Rattle.reach.specs.declared.Appointment.{Appointment}
 use Rattle.reach.specs.Words.{bit, SetOf}
 use Rattle.reach.specs.Tests.{Some, Decides}
 use Rattle.reach.specs.Tables.{no_appointment, view}
-use Rattle.reach.specs.Reach.{InUse, Under, itself}
+use Rattle.reach.specs.Reach.{InUse, User, Under, itself}
 use Rattle.reach.specs.Privileges.{administrator}
-use Rattle.reach.specs.Asking.{reach_of, UnderBy, UnderSomeBy, HasB, HasFirst}
+use Rattle.reach.specs.Asking.{reach_of, UnderSomeBy, HasB, HasFirst}
 use Rattle.reach.proofs.Bits.{bit_none, bit_of_or}
 use Rattle.reach.proofs.Testing.{some_map, decides_as}
 use Rattle.reach.proofs.WordSets.{set_as, set_empty, set_lowest, decides_nonempty}
 use Rattle.reach.proofs.Reaching.{under_lower}
 use Rattle.reach.proofs.Chains.{in_use_below}
 use Rattle.reach.proofs.Upward.{under_by, under_of}
+use Rattle.reach.proofs.AsRead.{appointment_is}
 use Rattle.reach.proofs.Meeting.{second_administers, administers_second, first_administers, administers_first}
 use Rattle.gains.specs.Lacking.{Above, LacksA, LacksB, LacksPair}
-use Rattle.gains.specs.Lending.{Lent, Heard}
-use Rattle.gains.proofs.Lending.{appointment_lent, opened_set}
+use Rattle.gains.proofs.Lending.{opened_set}
 
--- ---- Reach on the lent tables is that of the policy
-
-under_lent : (p : Policy) {s m : List ℕ} {y t : ℕ} → Lent p s m → Under (view p) y t → UnderBy s m y t
-under_lent p {s} {m} {y} {t} k l =
-    subst
-    (λ (b : List ℕ). UnderBy s b y t)
-    k.memberships
-    (subst (λ (a : List ℕ). UnderBy a p.memberships y t) k.sorts (under_by p l))
-
-lent_under : (p : Policy) {s m : List ℕ} {y t : ℕ} → Lent p s m → UnderBy s m y t → Under (view p) y t
-lent_under p {s} {m} {y} {t} k l =
-    under_of p
-    (subst
-    (λ (b : List ℕ). UnderBy p.sorts b y t)
-    (sym k.memberships)
-    (subst (λ (a : List ℕ). UnderBy a m y t) (sym k.sorts) l))
-
-module _ (p : Policy) {s m : List ℕ} {l : List Appointment} {u x g object group : ℕ} (k : Heard p s m l u) (o : Above p x object)
-    (q : Above p g group) where
+module _ (p : Policy) (u : ℕ) {x g object group : ℕ} (user : User (view p) u) (o : Above p x object) (q : Above p g group) where
   abbrev opened : ℕ
   opened = bit_and group (2 ^ 64 - 1 - object)
 
   -- What `not_under` says of the numbers that it leaves.
   abbrev Left : ℕ → ℕ → ℕ → Type 0
-  Left f h y = (bit f y ≡ 1) × InUse (view (reach_of s m)) y × (UnderSomeBy s m h y → ⊥)
+  Left f h y = (bit f y ≡ 1) × InUse (view (reach_of p.sorts p.memberships)) y × (UnderSomeBy p.sorts p.memberships h y → ⊥)
 
   pub left_at : {f h a b n : ℕ} → SetOf n (Left a b) → a ≡ f → b ≡ h → SetOf n (Left f h)
   left_at {f} {h} {a} {b} {n} w e d = subst (λ (c : ℕ). SetOf n (Left f c)) d (subst (λ (c : ℕ). SetOf n (Left c b)) e w)
 
-  used_of : (y : ℕ) → InUse (view (reach_of s m)) y → InUse (view p) y
-  used_of y i = under_lower (lent_under p k.lent (itself i))
+  used_of : (y : ℕ) → InUse (view (reach_of p.sorts p.memberships)) y → InUse (view p) y
+  used_of y i = under_lower (under_of p (itself i))
 
-  used_lent : (y : ℕ) → InUse (view p) y → InUse (view (reach_of s m)) y
-  used_lent y i = under_lower (under_lent p k.lent (itself i))
+  used_lent : (y : ℕ) → InUse (view p) y → InUse (view (reach_of p.sorts p.memberships)) y
+  used_lent y i = under_lower (under_by p (itself i))
 
-  some_lent : (h : ℕ) {y : ℕ} → Some 64 (λ t. (bit h t ≡ 1) × Under (view p) y t) → UnderSomeBy s m h y
-  some_lent h w = some_map (λ t v. (v.0, under_lent p k.lent v.1)) w
+  some_lent : (h : ℕ) {y : ℕ} → Some 64 (λ t. (bit h t ≡ 1) × Under (view p) y t) → UnderSomeBy p.sorts p.memberships h y
+  some_lent h w = some_map (λ t v. (v.0, under_by p v.1)) w
 
-  lent_some : (h : ℕ) {y : ℕ} → UnderSomeBy s m h y → Some 64 (λ t. (bit h t ≡ 1) × Under (view p) y t)
-  lent_some h w = some_map (λ t v. (v.0, lent_under p k.lent v.1)) w
+  lent_some : (h : ℕ) {y : ℕ} → UnderSomeBy p.sorts p.memberships h y → Some 64 (λ t. (bit h t ≡ 1) × Under (view p) y t)
+  lent_some h w = some_map (λ t v. (v.0, under_of p v.1)) w
 
   -- ---- B, with an A that is opened
 
   abbrev Second : ℕ → ℕ → Type 0
-  Second set r = SetOf r (λ b. Some 32 (λ i. (b < 64) × HasB (get_or l i no_appointment) u set b))
+  Second set r = SetOf r (λ b. Some 32 (λ i. (b < 64) × HasB (get_or p.appointments i no_appointment) u set b))
 
   pub second_at : {set r t : ℕ} → Second t r → t ≡ set → Second set r
   second_at {r = r} h e = subst (λ (t : ℕ). Second t r) e h
@@ -80,12 +61,8 @@ module _ (p : Policy) {s m : List ℕ} {l : List Appointment} {u x g object grou
   second_view {set} h =
       set_as
       h
-      (λ b w. some_map (λ i v. (v.0, subst (λ (a : Appointment). HasB a u set b) (sym (appointment_lent p k.appointments i)) v.1)) w)
-      (λ b w. some_map (λ i v. (v.0, subst (λ (a : Appointment). HasB a u set b) (appointment_lent p k.appointments i) v.1)) w)
-
-  second_own : {set r : ℕ} → Second set r → SetOf r (λ b. Some 32 (λ i. (b < 64) × HasB (get_or p.appointments i no_appointment) u set b))
-  second_own {set} {r} h =
-      subst (λ (a : List Appointment). SetOf r (λ b. Some 32 (λ i. (b < 64) × HasB (get_or a i no_appointment) u set b))) (sym k.appointments) h
+      (λ b w. some_map (λ i v. (v.0, subst (λ (a : Appointment). HasB a u set b) (sym (appointment_is p i)) v.1)) w)
+      (λ b w. some_map (λ i v. (v.0, subst (λ (a : Appointment). HasB a u set b) (appointment_is p i) v.1)) w)
 
   -- b is the B of an appointment of his by which a pair comes.
   abbrev SecondComes : ℕ → Type 0
@@ -123,14 +100,14 @@ module _ (p : Policy) {s m : List ℕ} {l : List Appointment} {u x g object grou
             above = a.0;
             not_above = a.1;
             other = used_of b w.1;
-            lacks = λ d. w.2 (some_lent _ (administers_second p k.user o (second_own h) d));
+            lacks = λ d. w.2 (some_lent _ (administers_second p user o h d));
           },
         ),
       ))
       ((second_view f).only b w.0))
       (λ b w.
       let c = w.at.1.1 in
-      (second_in f w, used_lent b c.other, λ d. c.lacks (second_administers p k.user o (second_own h) (lent_some _ d))))
+      (second_in f w, used_lent b c.other, λ d. c.lacks (second_administers p user o h (lent_some _ d))))
 
   second_pair : {b : ℕ} → SecondComes b → LacksPair (view p) u x g
   second_pair w =
@@ -146,7 +123,7 @@ module _ (p : Policy) {s m : List ℕ} {l : List Appointment} {u x g object grou
   -- ---- A, with a B that is opened
 
   abbrev First : ℕ → ℕ → Type 0
-  First set r = SetOf r (λ b. Some 32 (λ i. (b < 64) × HasFirst (get_or l i no_appointment) u set b))
+  First set r = SetOf r (λ b. Some 32 (λ i. (b < 64) × HasFirst (get_or p.appointments i no_appointment) u set b))
 
   pub first_at : {set r t : ℕ} → First t r → t ≡ set → First set r
   first_at {r = r} h e = subst (λ (t : ℕ). First t r) e h
@@ -155,12 +132,8 @@ module _ (p : Policy) {s m : List ℕ} {l : List Appointment} {u x g object grou
   first_view {set} h =
       set_as
       h
-      (λ b w. some_map (λ i v. (v.0, subst (λ (a : Appointment). HasFirst a u set b) (sym (appointment_lent p k.appointments i)) v.1)) w)
-      (λ b w. some_map (λ i v. (v.0, subst (λ (a : Appointment). HasFirst a u set b) (appointment_lent p k.appointments i) v.1)) w)
-
-  first_own : {set r : ℕ} → First set r → SetOf r (λ b. Some 32 (λ i. (b < 64) × HasFirst (get_or p.appointments i no_appointment) u set b))
-  first_own {set} {r} h =
-      subst (λ (a : List Appointment). SetOf r (λ b. Some 32 (λ i. (b < 64) × HasFirst (get_or a i no_appointment) u set b))) (sym k.appointments) h
+      (λ b w. some_map (λ i v. (v.0, subst (λ (a : Appointment). HasFirst a u set b) (sym (appointment_is p i)) v.1)) w)
+      (λ b w. some_map (λ i v. (v.0, subst (λ (a : Appointment). HasFirst a u set b) (appointment_is p i) v.1)) w)
 
   -- b is the A of an appointment of his by which a pair comes.
   abbrev FirstComes : ℕ → Type 0
@@ -198,14 +171,14 @@ module _ (p : Policy) {s m : List ℕ} {l : List Appointment} {u x g object grou
             above = a.0;
             not_above = a.1;
             other = used_of b w.1;
-            lacks = λ d. w.2 (some_lent _ (administers_first p k.user o (first_own h) d));
+            lacks = λ d. w.2 (some_lent _ (administers_first p user o h d));
           },
         ),
       ))
       ((first_view f).only b w.0))
       (λ b w.
       let c = w.at.1.1 in
-      (first_in f w, used_lent b c.other, λ d. c.lacks (first_administers p k.user o (first_own h) (lent_some _ d))))
+      (first_in f w, used_lent b c.other, λ d. c.lacks (first_administers p user o h (lent_some _ d))))
 
   first_pair : {b : ℕ} → FirstComes b → LacksPair (view p) u x g
   first_pair w =

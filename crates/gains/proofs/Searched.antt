@@ -25,11 +25,10 @@ use Rattle.reach.proofs.Chains.{in_use_below}
 use Rattle.reach.proofs.AsRead.{rule_is}
 use Rattle.reach.proofs.Upward.{under_of, under_by}
 use Rattle.reach.proofs.Meeting.{target_of_sort, sort_of_target}
-use Rattle.gains.specs.declared.Gain.{Gain}
-use Rattle.gains.specs.declared.Gain.TheVariants.{Permission, Nothing}
+use Rattle.gains.specs.declared.Permission.{Permission}
+use Rattle.std.specs.Prelude.{Option, Some as Found, None, is_some}
 use Rattle.gains.specs.Lacking.{Above, UnderPut, LacksPermit, LacksRuled}
-use Rattle.gains.specs.Lending.{Ruled}
-use Rattle.gains.specs.Searching.{found, Joined, FirstFresh, Fresh}
+use Rattle.gains.specs.Searching.{Joined, FirstFresh, Fresh}
 
 -- ---- Words
 
@@ -58,10 +57,10 @@ fresh_decides had got before after a b =
     decides_and _ _ (decides_nonempty (set_mask got (set_bits after a))) (decides_empty (set_mask had (set_bits before b)))
 
 -- What is found decides what is fresh somewhere.
-pub found_decides : {P : ℕ → ℕ → Type 0} {Q : Type 0} (r : Gain) → FirstFresh P r → ((y k : ℕ) → k < 8 → P y k → Q)
-    → (Q → (y : ℕ) × (k : ℕ) × (k < 8) × P y k) → Decides (found r) Q
-found_decides (Permission y k) f g h = record { sound = λ e. g y k f.0 f.1; complete = λ q. refl }
-found_decides Nothing f g h = decides_none (λ q. let w = h q in f w.0 w.1 w.2 w.3)
+pub found_decides : {P : ℕ → ℕ → Type 0} {Q : Type 0} (r : Option Permission) → FirstFresh P r → ((y k : ℕ) → k < 8 → P y k → Q)
+    → (Q → (y : ℕ) × (k : ℕ) × (k < 8) × P y k) → Decides (is_some r) Q
+found_decides (Found w) f g h = record { sound = λ e. g w.target w.operation f.0 f.1; complete = λ q. refl }
+found_decides None f g h = decides_none (λ q. let w = h q in f w.0 w.1 w.2 w.3)
 
 -- ---- The tables of what is granted
 
@@ -211,7 +210,7 @@ module _ (p : Policy) {u over : ℕ} (user : User (view p) u) (o : Above p u ove
         low (inr c) = top c.1
 
     -- What the search finds.
-    pub put_found : (r : Gain) → FirstFresh (Fresh p.sorts p.memberships had got x group) r → Decides (found r) (LacksPermit (view p) u x g)
+    pub put_found : (r : Option Permission) → FirstFresh (Fresh p.sorts p.memberships had got x group) r → Decides (is_some r) (LacksPermit (view p) u x g)
     put_found r f = found_decides r f fresh_lacks (λ l. (l.gear, l.operation, l.number, lacks_fresh l))
 
   -- GRANT: the same users, and the T of the new rule for each of its operations.
@@ -253,22 +252,5 @@ module _ (p : Policy) {u over : ℕ} (user : User (view p) u) (o : Above p u ove
           lacked = λ m. l.lacks (had_permitted l.number l.target (some_map (λ n c. (c.0, under_of p c.1)) m));
         }
 
-    pub grant_found : (q : Gain) → FirstFresh (Fresh p.sorts p.memberships had got 0 0) q → Decides (found q) (LacksRuled (view p) u r)
+    pub grant_found : (q : Option Permission) → FirstFresh (Fresh p.sorts p.memberships had got 0 0) q → Decides (is_some q) (LacksRuled (view p) u r)
     grant_found q f = found_decides q f fresh_ruled (λ l. (l.gear, l.operation, l.number, ruled_fresh l))
-
--- The same, by tables that are lent and handed on.
-pub put_found_lent : (p : Policy) {u over x g group more : ℕ} {sorts memberships had got : List ℕ} {rules : List AccessRule}
-    → Ruled p sorts memberships rules → User (view p) u → Above p u over → TableOf 8 had (GrantedAt rules over) → Above p g group
-    → SetOf more (λ t. UnderPut (view p) x g u t) → TableOf 8 got (GrantedAt rules more) → (r : Gain)
-    → FirstFresh (Fresh sorts memberships had got x group) r → Decides (found r) (LacksPermit (view p) u x g)
-put_found_lent p {over = over} {x = x} {group = group} {more = more} {memberships = memberships} {had = had} {got = got} k user o h a w t r f =
-    put_found p user o
-    (subst (λ (l : List AccessRule). TableOf 8 had (GrantedAt l over)) (sym k.rules) h)
-    a
-    w
-    (subst (λ (l : List AccessRule). TableOf 8 got (GrantedAt l more)) (sym k.rules) t)
-    r
-    (subst
-    (λ (m : List ℕ). FirstFresh (Fresh p.sorts m had got x group) r)
-    (sym k.lent.memberships)
-    (subst (λ (s : List ℕ). FirstFresh (Fresh s memberships had got x group) r) (sym k.lent.sorts) f))

@@ -1,5 +1,5 @@
 -- What a request would give its sender, as check 10 looks for it.
-use Rattle.std.specs.Prelude.{ℕ, ◌<◌, Result, Ok, Err}
+use Rattle.std.specs.Prelude.{ℕ, ◌<◌, Option, Some, None, Result, Ok, Err}
 use Rattle.reach.specs.declared.Policy.{Policy}
 use Rattle.reach.specs.Tables.{view}
 use Rattle.reach.specs.Reach.{InUse}
@@ -10,8 +10,7 @@ use Rattle.rules.specs.declared.Refusal.{Refusal}
 use Rattle.rules.specs.declared.Refusal.TheVariants.{OwnGain, HandOver}
 use Rattle.rules.specs.Refusals.{own_gain, hand_over}
 use Rattle.rules.specs.Doing.{after}
-use Rattle.gains.specs.declared.Gain.{Gain}
-use Rattle.gains.specs.declared.Gain.TheVariants.{Permission, Nothing}
+use Rattle.gains.specs.declared.Permission.{Permission}
 
 -- [01:reach.8] "A request gives a holding if he has it after and lacked it before, where every object in it was in use before.": by the
 -- request q, were it done, u comes to be permitted operation k on target x.
@@ -26,9 +25,9 @@ given_by p u q = own_gain p u q ⇒ Err OwnGain ∥ hand_over p u q ⇒ Err Hand
 
 -- [01:runner.4] "The search for a permit that the sender would gain goes through gear and operations and stops at the first found.": the
 -- first permission that u would gain, target by target and operation by operation, or that there is none.
-abbrev pub FirstPermission : Policy → ℕ → Request → Gain → Type 0
-FirstPermission p u q (Permission x k) =
-    ComesToUse p u q x k
-    × ((y j : ℕ) → y < x → ComesToUse p u q y j → ⊥)
-    × ((j : ℕ) → j < k → ComesToUse p u q x j → ⊥)
-FirstPermission p u q Nothing = (y j : ℕ) → ComesToUse p u q y j → ⊥
+abbrev pub FirstPermission : Policy → ℕ → Request → Option Permission → Type 0
+FirstPermission p u q (Some w) =
+    ComesToUse p u q w.target w.operation
+    × ((y j : ℕ) → y < w.target → ComesToUse p u q y j → ⊥)
+    × ((j : ℕ) → j < w.operation → ComesToUse p u q w.target j → ⊥)
+FirstPermission p u q None = (y j : ℕ) → ComesToUse p u q y j → ⊥

@@ -1,22 +1,21 @@
 -- What the search for a permission goes by: words as sets, tables of eight of them, and the lent tables of reach.
-use Rattle.std.specs.Prelude.{◌≡◌, Bool, true, false, List, ◌⊎◌, ℕ, ◌<◌, length, get_or}
+use Rattle.std.specs.Prelude.{◌≡◌, true, List, ◌⊎◌, ℕ, ◌<◌, length, get_or, Option, Some as Found, None}
 use Rattle.reach.specs.declared.AccessRule.{AccessRule}
 use Rattle.reach.specs.Words.{bit, SetOf}
 use Rattle.reach.specs.Tests.{Some}
 use Rattle.reach.specs.Tables.{sort_in}
 use Rattle.reach.specs.Asking.{UnderBy}
-use Rattle.gains.specs.declared.Gain.{Gain}
-use Rattle.gains.specs.declared.Gain.TheVariants.{Permission, Nothing}
-
--- Whether a permission is found.
-abbrev pub found : Gain → Bool
-found (Permission x k) = true
-found Nothing = false
+use Rattle.gains.specs.declared.Permission.{Permission}
 
 -- n sets, each with what it had and what Q says that it comes to have.
 pub record Joined (n : ℕ) (sets : List ℕ) (Q : ℕ → ℕ → Type 0) (r : List ℕ) : Type 0 where
   pub long : length r ≡ n
   pub row : (i : ℕ) → i < n → SetOf (get_or r i 0) (λ x. (bit (get_or sets i 0) x ≡ 1) ⊎ Q i x)
+
+-- The rule is in use, and its U is in the set.
+pub record Covers (r : AccessRule) (users : ℕ) : Type 0 where
+  pub used : r.used ≡ true
+  pub in_u : bit users r.users ≡ 1
 
 -- The rule is in use, has the operation k, and its U and its T are in the sets.
 pub record GrantsOver (r : AccessRule) (users targets k : ℕ) : Type 0 where
@@ -31,12 +30,13 @@ pub record New (had got x : ℕ) : Type 0 where
   pub lacked : bit had x ≡ 1 → ⊥
 
 -- The first pair of a target and an operation of which P holds, target by target and operation by operation, or that there is none.
-abbrev pub FirstFresh : (ℕ → ℕ → Type 0) → Gain → Type 0
-FirstFresh P (Permission x k) =
-    (k < 8) × P x k × ((y j : ℕ) → y < x → j < 8 → P y j → ⊥) × ((j : ℕ) → j < k → P x j → ⊥)
-FirstFresh P Nothing = (y j : ℕ) → j < 8 → P y j → ⊥
+abbrev pub FirstFresh : (ℕ → ℕ → Type 0) → Option Permission → Type 0
+FirstFresh P (Found w) =
+    (w.operation < 8) × P w.target w.operation × ((y j : ℕ) → y < w.target → j < 8 → P y j → ⊥)
+    × ((j : ℕ) → j < w.operation → P w.target j → ⊥)
+FirstFresh P None = (y j : ℕ) → j < 8 → P y j → ⊥
 
-abbrev pub FirstNew : List ℕ → List ℕ → Gain → Type 0
+abbrev pub FirstNew : List ℕ → List ℕ → Option Permission → Type 0
 FirstNew had got r = FirstFresh (λ x k. New (get_or had k 0) (get_or got k 0) x) r
 
 -- y is a target, the groups granted for operation k meet what y is under once x is put where `over` is above, and those granted before met

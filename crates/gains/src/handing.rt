@@ -1,86 +1,52 @@
 // Check 11: what PUT would hand over.
 ghost use Rattle.std.specs.Prelude.{◌≡◌, ℕ, ◌<◌, get_or};
-ghost use Rattle.reach.specs.declared.Policy.{Policy};
 ghost use Rattle.reach.specs.Words.{bit, SetOf};
 ghost use Rattle.reach.specs.Tests.{Some, Decides};
-ghost use Rattle.reach.specs.Tables.{no_appointment, view};
+ghost use Rattle.reach.specs.Tables.{sort_in, no_appointment, view};
 ghost use Rattle.gains.specs.Lacking.{HolderOf, SomeLacks, Above};
 
-use reach::{Appointment, has, just, only_if};
+use reach::{Appointment, Objects, Policy, Post, has, just, only_if};
 
-// Who holds something above the object, and who holds something above the group, as sets.
-#[derive(Clone, Copy)]
-struct Who {
-    object: u64,
-    group: u64,
+// The holder of this appointment, if it is of that kind and its A is in the set.
+fn holder_of(w: Appointment, kind: u8, over: u64) -> u64
+    ensures { SetOf result (λ u. (u < 64) × HolderOf w kind over u) }
+{
+    only_if((w.kind == kind) & has(over, w.a), just(w.holder))
 }
 
-// The holder of this appointment, if it is of that kind: for the object if its A is in the one set, and for the group if it is in the other.
-fn holder_of(w: Appointment, kind: u8, object: u64, group: u64) -> Who
-    ensures { SetOf result.object (λ u. (u < 64) × HolderOf w kind object u) × SetOf result.group (λ u. (u < 64) × HolderOf w kind group u) }
+// All who hold an appointment of that kind whose A is in the set.
+fn holders(appointments: &[Appointment; 32], kind: u8, over: u64) -> u64
+    ensures { SetOf result (λ u. Some 32 (λ i. (u < 64) × HolderOf (get_or appointments.now i no_appointment) kind over u)) }
 {
-    if w.kind != kind {
-        return Who {
-            object: 0,
-            group: 0,
-        };
+    let mut set = 0;
+    for w in appointments {
+        set |= holder_of(*w, kind, over);
     }
-    let holder = just(w.holder);
-    Who {
-        object: only_if(has(object, w.a), holder),
-        group: only_if(has(group, w.a), holder),
-    }
+    set
 }
 
-// All who hold an appointment of that kind whose A is in the one set, and in the other: the table is gone through once for both.
-fn holders(appointments: [Appointment; 32], kind: u8, object: u64, group: u64) -> Who
-    ensures { SetOf result.object (λ u. Some 32 (λ i. (u < 64) × HolderOf (get_or appointments i no_appointment) kind object u)) ×
-        SetOf result.group (λ u. Some 32 (λ i. (u < 64) × HolderOf (get_or appointments i no_appointment) kind group u)) }
+// Whether h is a user among these.
+fn user_among(objects: Objects, set: u64, h: u8) -> bool
+    ensures { Decides result ((bit set h ≡ 1) × (sort_in objects.entry.sorts.now h ≡ 2)) }
 {
-    let mut had: u64 = 0;
-    let mut got: u64 = 0;
-    let mut i: usize = 0;
-    while i < 32 {
-        let more = holder_of(appointments[i], kind, object, group);
-        had |= more.object;
-        got |= more.group;
-        i += 1;
-    }
-    Who {
-        object: had,
-        group: got,
-    }
+    has(set, h) && objects.is_user(h)
 }
 
 // Whether some one of these is a user.
-fn some_user(sorts: &[u8; 64], set: u64) -> bool
-    ensures { Decides result (Some 64 (λ h. (bit set h ≡ 1) × (get_or sorts.now h 0 ≡ 2))) }
+fn some_user(objects: Objects, set: u64) -> bool
+    ensures { Decides result (Some 64 (λ h. (bit set h ≡ 1) × (sort_in objects.entry.sorts.now h ≡ 2))) }
 {
-    let mut left = set;
-    while left != 0 {
-        let h = u64::trailing_zeros(left) as usize;
-        if sorts[h] == 2 {
-            return true;
-        }
-        left &= !(1u64 << h);
-    }
-    false
+    (0..64).any(|h| user_among(objects, set, h))
 }
 
 // Whether some user holds the group and not the object, as an owner or as a manager.
-pub fn hands_over(
-    sorts: &[u8; 64],
-    appointments: [Appointment; 32],
-    object: u64,
-    group: u64,
-) -> bool
-    ensures { (p : Policy) (x g : ℕ) → p.sorts ≡ sorts.now → p.appointments ≡ appointments →
-        Above p x object → Above p g group → Decides result (SomeLacks (view p) x g) }
+pub fn hands_over(p: &Policy, object: u64, group: u64) -> bool
+    ensures { (x g : ℕ) → Above p.now x object → Above p.now g group → Decides result (SomeLacks (view p.now) x g) }
 {
-    let owners = holders(appointments, 1, object, group);
-    let managers = holders(appointments, 2, object, group);
-    some_user(
-        sorts,
-        (owners.group & !owners.object) | (managers.group & !managers.object),
-    )
+    let appointments = &p.appointments;
+    let owner = Post::Owner as u8;
+    let manager = Post::Manager as u8;
+    let owners = holders(appointments, owner, group) & !holders(appointments, owner, object);
+    let managers = holders(appointments, manager, group) & !holders(appointments, manager, object);
+    some_user(p.objects(), owners | managers)
 }

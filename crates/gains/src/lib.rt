@@ -14,9 +14,9 @@ pub use own::{appoint_gains, grant_gains};
 pub use putting::put_verdict;
 pub use searching::gained;
 
-// A permission that is gained, target and operation, or none.
-#[derive(Clone, Copy)]
-pub enum Gain {
-    Permission(u8, u8),
-    Nothing,
+// A permission, by its target and its operation.
+#[derive(Clone, Copy, Debug, PartialEq, Eq)]
+pub struct Permission {
+    pub target: u8,
+    pub operation: u8,
 }

@@ -4,11 +4,10 @@ ghost use Rattle.rules.specs.declared.Request.TheVariants.{Grant};
 ghost use Rattle.rules.specs.Allowing.{appointing};
 ghost use Rattle.rules.specs.Refusals.{own_gain};
 
-use crate::Gain;
 use crate::granting::{granted, operations_over, spread};
 use crate::putting::lacks_first;
 use crate::searching::first_fresh;
-use reach::{AccessRule, Appointment, Policy, climb, has, just, posts_of, sort_in};
+use reach::{AccessRule, Appointment, Policy, Post, has, just, posts_of};
 
 // APPOINT gives its sender something exactly if he appoints himself to what he lacks: nothing that he is appointed over in that way is above
 // its A, or no one appointment of his covers its pair.
@@ -18,26 +17,18 @@ pub fn appoint_gains(p: Policy, u: u8, place: u8, w: Appointment) -> bool
     if !((w.holder == u) & (place < 32)) {
         return false;
     }
-    let sorts = p.sorts;
-    let memberships = p.memberships;
-    let appointments = p.appointments;
-    let sender = sort_in(&sorts, u);
-    let over = sort_in(&sorts, w.a);
-    if !((sender == 2) & (over != 0)) {
+    let objects = p.objects();
+    if !(objects.is_user(u) & objects.in_use(w.a)) {
         return false;
     }
-    let above = climb(&sorts, &memberships, w.a);
-    let posts = posts_of(&appointments, u);
-    if w.kind == 1 {
-        return posts.owner & above == 0;
+    let above = objects.above(w.a);
+    let posts = posts_of(&p.appointments, u);
+    match Post::of(w.kind) {
+        Some(Post::Owner) => posts.owner & above == 0,
+        Some(Post::Manager) => posts.manager & above == 0,
+        Some(Post::Administrator) => lacks_first(&p, u, w.b, above),
+        None => false,
     }
-    if w.kind == 2 {
-        return posts.manager & above == 0;
-    }
-    if w.kind == 3 {
-        return lacks_first(&sorts, &memberships, appointments, u, w.b, above);
-    }
-    false
 }
 
 // GRANT can give permissions alone: its sender gains exactly if he is among its users and the search finds one. There is nothing to find if
@@ -45,25 +36,19 @@ pub fn appoint_gains(p: Policy, u: u8, place: u8, w: Appointment) -> bool
 pub fn grant_gains(p: Policy, u: u8, place: u8, rule: AccessRule) -> bool
     ensures { result ≡ own_gain p u (Grant place rule.users rule.targets rule.operations) }
 {
-    let sorts = p.sorts;
-    let memberships = p.memberships;
-    let rules = p.rules;
-    let sender = sort_in(&sorts, u);
-    if !((place < 64) & (sender == 2)) {
+    let objects = p.objects();
+    if !((place < 64) & objects.is_user(u)) {
         return false;
     }
-    let over = climb(&sorts, &memberships, u);
+    let over = objects.above(u);
     if !has(over, rule.users) {
         return false;
     }
-    let above = climb(&sorts, &memberships, rule.targets);
-    if (rule.operations as u64) & !operations_over(rules, over, above) == 0 {
+    let above = objects.above(rule.targets);
+    if (rule.operations as u64) & !operations_over(&p.rules, over, above) == 0 {
         return false;
     }
-    let had = granted(rules, over);
+    let had = granted(&p.rules, over);
     let got = spread(had, rule.operations as u64, just(rule.targets));
-    match first_fresh(&sorts, &memberships, had, got, 0, 0) {
-        Gain::Permission(y, k) => true,
-        Gain::Nothing => false,
-    }
+    first_fresh(&p, had, got, 0, 0).is_some()
 }

@@ -4,75 +4,56 @@ ghost use Rattle.reach.specs.declared.Policy.{Policy};
 ghost use Rattle.reach.specs.Words.{Meet};
 ghost use Rattle.reach.specs.Tests.{Decides, ◌⇒◌∥◌};
 ghost use Rattle.reach.specs.Tables.{view};
-ghost use Rattle.reach.specs.Reach.{InUse};
+ghost use Rattle.reach.specs.Reach.{InUse, User};
 ghost use Rattle.reach.specs.Privileges.{Administers};
 ghost use Rattle.rules.specs.declared.Request.TheVariants.{Put};
 ghost use Rattle.rules.specs.declared.Refusal.TheVariants.{AlreadySo, NoAuthority};
 ghost use Rattle.rules.specs.Refusals.{already_so, no_authority};
 ghost use Rattle.gains.specs.Giving.{given_by};
 ghost use Rattle.gains.specs.Lacking.{Grows, LacksPair, Above};
-ghost use Rattle.gains.specs.Lending.{Heard, Placed};
+ghost use Rattle.gains.specs.Lending.{Placed};
 
 use crate::handing::hands_over;
-use crate::opening::{is_found, put_permission, rules_open};
+use crate::opening::{put_permission, rules_open};
 use crate::searching::fresh;
-use reach::{
-    Appointment, Placing, Policy, Posts, climb, covers_pair, has, not_under, only_if, sides_of,
-    sort_in,
-};
+use reach::{Placing, Policy, Posts, covers_pair, has, only_if, sides_of};
 use rules::Refusal;
 
 // Whether b is in use, and u does not administer the pair of x and b, where `object` is all that x is under.
-pub fn lacks_first<'a>(
-    sorts: &'a [u8; 64],
-    memberships: &'a [u64; 64],
-    appointments: [Appointment; 32],
-    u: u8,
-    b: u8,
-    object: u64,
-) -> bool
-    ensures { (p : Policy) (x : ℕ) → Heard p sorts.now memberships.now appointments u → Above p x object →
-        Decides result (InUse (view p) b × (Administers (view p) u x b → ⊥)) }
+pub fn lacks_first(p: &Policy, u: u8, b: u8, object: u64) -> bool
+    ensures { (x : ℕ) → User (view p.now) u → Above p.now x object →
+        Decides result (InUse (view p.now) b × (Administers (view p.now) u x b → ⊥)) }
 {
-    let over = climb(sorts, memberships, b);
-    if over == 0 {
-        return false;
-    }
-    !covers_pair(&appointments, u, object, over)
+    let over = p.objects().above(b);
+    over != 0 && !covers_pair(&p.appointments, u, object, over)
 }
 
 // Whether u comes to administer a pair by one of his appointments: its A is opened, and its B is in use and not under the B of any that has
 // its A above the object; or the same with the sides exchanged.
-fn pairs_come<'a>(
-    sorts: &'a [u8; 64],
-    memberships: &'a [u64; 64],
-    appointments: [Appointment; 32],
-    u: u8,
-    object: u64,
-    group: u64,
-) -> bool
-    ensures { (p : Policy) (x g : ℕ) → Heard p sorts.now memberships.now appointments u →
-        Above p x object → Above p g group → Decides result (LacksPair (view p) u x g) }
+fn pairs_come(p: &Policy, u: u8, asked: Placing) -> bool
+    ensures { (x g : ℕ) → Placed p.now u x g asked → Decides result (LacksPair (view p.now) u x g) }
 {
-    let opened = sides_of(&appointments, u, group & !object);
+    let object = asked.first;
+    let group = asked.second;
+    let opened = sides_of(&p.appointments, u, group & !object);
     if opened.first | opened.second == 0 {
         return false;
     }
-    let held = sides_of(&appointments, u, object);
-    if not_under(sorts, memberships, opened.second, held.second) != 0 {
-        return true;
-    }
-    not_under(sorts, memberships, opened.first, held.first) != 0
+    let held = sides_of(&p.appointments, u, object);
+    let objects = p.objects();
+    objects.not_under(opened.second, held.second) != 0
+        || objects.not_under(opened.first, held.first) != 0
 }
 
 // Whether what he is appointed over, as an owner or as a manager, has something above the group and nothing above the object.
-fn posts_grow(posts: Posts, object: u64, group: u64) -> bool
-    ensures { Decides result (Grows posts.owner object group ⊎ Grows posts.manager object group) }
+fn posts_grow(asked: Placing) -> bool
+    ensures { Decides result (Grows asked.posts.owner asked.first asked.second ⊎ Grows asked.posts.manager asked.first asked.second) }
 {
-    if fresh(posts.owner, posts.owner, object, group) {
-        return true;
-    }
-    fresh(posts.manager, posts.manager, object, group)
+    let posts = asked.posts;
+    let object = asked.first;
+    let group = asked.second;
+    fresh(posts.owner, posts.owner, object, group)
+        || fresh(posts.manager, posts.manager, object, group)
 }
 
 // Whether what he is appointed over, as an owner or as a manager, has something in the set.
@@ -88,36 +69,33 @@ fn meets(posts: Posts, set: u64) -> bool
 fn put_gives(p: Policy, u: u8, x: u8, g: u8, asked: Placing) -> Result<(), Refusal>
     ensures { Placed p u x g asked → result ≡ given_by p u (Put x g) }
 {
-    let sorts = p.sorts;
-    let memberships = p.memberships;
-    let appointments = p.appointments;
-    let rules = p.rules;
     let posts = asked.posts;
     let object = asked.first;
     let group = asked.second;
-    if sort_in(&sorts, g) != 1 {
+    let objects = p.objects();
+    if !objects.is_group(g) {
         return Ok(());
     }
     if has(object, g) {
         return Ok(());
     }
-    if posts_grow(posts, object, group) {
+    if posts_grow(asked) {
         return Err(Refusal::OwnGain);
     }
-    if pairs_come(&sorts, &memberships, appointments, u, object, group) {
+    if pairs_come(&p, u, asked) {
         return Err(Refusal::OwnGain);
     }
-    let over = climb(&sorts, &memberships, u);
+    let over = objects.above(u);
     let more = only_if(has(over, x), group & !over);
-    if rules_open(rules, over, more, group & !object) {
-        if is_found(put_permission(&sorts, &memberships, rules, over, x, group)) {
+    if rules_open(&p.rules, over, more, group & !object) {
+        if put_permission(&p, over, x, group).is_some() {
             return Err(Refusal::OwnGain);
         }
     }
     if posts.owner & object != 0 {
         return Ok(());
     }
-    Refusal::HandOver.if_so(hands_over(&sorts, appointments, object, group))
+    Refusal::HandOver.if_so(hands_over(&p, object, group))
 }
 
 // Checks 8 to 11 of a PUT, in their order. They are asked together, since all of them but the first go by what its object and its group are

@@ -4,43 +4,40 @@ ghost use Rattle.reach.specs.Words.{bit, SetOf, Meet};
 ghost use Rattle.reach.specs.Tests.{Some, Decides};
 ghost use Rattle.gains.specs.Searching.{New, FirstNew, Fresh, FirstFresh};
 
-use crate::Gain;
-use reach::{climb, has, sort_in};
+use crate::Permission;
+use reach::{Policy, has};
 
 // The targets that are new under some operation.
 fn new_targets(had: [u64; 8], got: [u64; 8]) -> u64
     ensures { SetOf result (λ x. Some 8 (λ k. New (get_or had k 0) (get_or got k 0) x)) }
 {
-    let mut set: u64 = 0;
-    let mut i: usize = 0;
-    while i < 8 {
-        set |= got[i] & !had[i];
-        i += 1;
+    let mut set = 0;
+    for k in 0..8 {
+        set |= got[k] & !had[k];
     }
     set
 }
 
 // The first permission, target by target and operation by operation, that is among the ones and not among the others. Targets that are new
 // under no operation are passed over.
-pub fn gained(had: [u64; 8], got: [u64; 8]) -> Gain
+pub fn gained(had: [u64; 8], got: [u64; 8]) -> Option<Permission>
     ensures { FirstNew had got result }
 {
     let fresh = new_targets(had, got);
-    let mut found = Gain::Nothing;
-    let mut x: u8 = 0;
-    'search: while x < 64 {
-        if has(fresh, x) {
-            let mut k: u8 = 0;
-            while k < 8 {
+    let mut found = None;
+    'search: for target in 0..64 {
+        if has(fresh, target) {
+            for k in 0..8 {
                 let i = k as usize;
-                if has(got[i] & !had[i], x) {
-                    found = Gain::Permission(x, k);
+                if has(got[i] & !had[i], target) {
+                    found = Some(Permission {
+                        target,
+                        operation: k,
+                    });
                     break 'search;
                 }
-                k += 1;
             }
         }
-        x += 1;
     }
     found
 }
@@ -65,33 +62,23 @@ pub fn fresh(had: u64, got: u64, before: u64, after: u64) -> bool
 
 // The first target and operation such that the groups granted for it meet what the target is under once x is put where `over` is above, and
 // those granted before met nothing that it is under before.
-pub fn first_fresh<'a>(
-    sorts: &'a [u8; 64],
-    memberships: &'a [u64; 64],
-    had: [u64; 8],
-    got: [u64; 8],
-    x: u8,
-    over: u64,
-) -> Gain
-    ensures { FirstFresh (Fresh sorts.now memberships.now had got x over) result }
+pub fn first_fresh(p: &Policy, had: [u64; 8], got: [u64; 8], x: u8, over: u64) -> Option<Permission>
+    ensures { FirstFresh (Fresh p.now.sorts p.now.memberships had got x over) result }
 {
-    let mut found = Gain::Nothing;
-    let mut y: u8 = 0;
-    'search: while y < 64 {
-        if sort_in(sorts, y) == 3 {
-            let before = climb(sorts, memberships, y);
+    let objects = p.objects();
+    let mut found = None;
+    'search: for target in 0..64 {
+        if objects.is_target(target) {
+            let before = objects.above(target);
             let after = with_put(before, x, over);
-            let mut operation: u8 = 0;
-            while operation < 8 {
-                let i = operation as usize;
-                if fresh(had[i], got[i], before, after) {
-                    found = Gain::Permission(y, operation);
+            for operation in 0..8 {
+                let k = operation as usize;
+                if fresh(had[k], got[k], before, after) {
+                    found = Some(Permission { target, operation });
                     break 'search;
                 }
-                operation += 1;
             }
         }
-        y += 1;
     }
     found
 }

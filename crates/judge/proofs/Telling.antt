@@ -1,6 +1,6 @@
 -- What is told of a refusal for own gain is fixed by the policy and the record: of two first permissions neither stands before the other,
 -- so they are one; and where there is none, there is no other to tell.
-use mathlib.Core.Path.{◌≡◌, refl, sym, subst, ◌∙◌}
+use mathlib.Core.Path.{◌≡◌, refl, sym, ap, subst, ◌∙◌}
 use mathlib.Core.Bool.{Bool, true, false, true≢false}
 use mathlib.Core.List.{List}
 use Prim.Native.Nat.{ℕ, ◌<◌}
@@ -11,25 +11,28 @@ use Rattle.reach.specs.declared.Policy.{Policy}
 use Rattle.rules.specs.declared.Request.{Request}
 use Rattle.rules.specs.Records.{sender, request}
 use Rattle.rules.specs.Judging.{code_of, judge}
-use Rattle.gains.specs.declared.Gain.{Gain}
-use Rattle.gains.specs.declared.Gain.TheVariants.{Permission, Nothing}
+use Rattle.std.specs.Prelude.{Option, Some, None}
+use Rattle.gains.specs.declared.Permission.{Permission}
 use Rattle.gains.specs.Giving.{ComesToUse, FirstPermission}
 use Rattle.judge.specs.Telling.{OwnGainOf}
 
-pub first_unique : (p : Policy) (u : ℕ) (q : Request) (g h : Gain) → FirstPermission p u q g → FirstPermission p u q h → g ≡ h
-first_unique p u q (Permission x k) (Permission y j) a b =
-    let not_less : (x < y → ⊥) = λ l. b.1 x k l a.0 in
-    let not_more : (y < x → ⊥) = λ l. a.1 y j l b.0 in
-    let target : x ≡ y = omega arith in
-    let not_earlier : (k < j → ⊥) = λ l. b.2 k l (subst (λ (x : ℕ). ComesToUse p u q x k) target a.0) in
-    let not_later : (j < k → ⊥) = λ l. a.2 j l (subst (λ (x : ℕ). ComesToUse p u q x j) (sym target) b.0) in
-    let operation : k ≡ j = omega arith in
-    cc
-first_unique p u q (Permission x k) Nothing a b = absurd (b x k a.0)
-first_unique p u q Nothing (Permission y j) a b = absurd (a y j b.0)
-first_unique p u q Nothing Nothing a b = refl
+same_permission : {v w : Permission} → v.target ≡ w.target → v.operation ≡ w.operation → Some v ≡ Some w
+same_permission {v} {w} e f =
+    ap (λ (x : ℕ). Some (record { target = x; operation = v.operation })) e ∙ ap (λ (k : ℕ). Some (record { target = w.target; operation = k })) f
 
-pub told_unique : (p : Policy) (b : List ℕ) (g h : Gain) → OwnGainOf p b g → OwnGainOf p b h → g ≡ h
+pub first_unique : (p : Policy) (u : ℕ) (q : Request) (g h : Option Permission) → FirstPermission p u q g → FirstPermission p u q h → g ≡ h
+first_unique p u q (Some v) (Some w) a b =
+    let not_less : (v.target < w.target → ⊥) = λ l. b.1 v.target v.operation l a.0 in
+    let not_more : (w.target < v.target → ⊥) = λ l. a.1 w.target w.operation l b.0 in
+    let target : v.target ≡ w.target = omega arith in
+    let not_earlier : (v.operation < w.operation → ⊥) = λ l. b.2 v.operation l (subst (λ (x : ℕ). ComesToUse p u q x v.operation) target a.0) in
+    let not_later : (w.operation < v.operation → ⊥) = λ l. a.2 w.operation l (subst (λ (x : ℕ). ComesToUse p u q x w.operation) (sym target) b.0) in
+    same_permission target (omega arith)
+first_unique p u q (Some v) None a b = absurd (b v.target v.operation a.0)
+first_unique p u q None (Some w) a b = absurd (a w.target w.operation b.0)
+first_unique p u q None None a b = refl
+
+pub told_unique : (p : Policy) (b : List ℕ) (g h : Option Permission) → OwnGainOf p b g → OwnGainOf p b h → g ≡ h
 told_unique p b g h s t = go (eqb code 10) refl
   where
     code : ℕ

@@ -9,7 +9,7 @@ ghost use Rattle.judge.specs.Telling.{OwnGainOf};
 use crate::decide;
 use crate::doing::after;
 use crate::numbers::code_of;
-use gains::{Gain, gained};
+use gains::{Permission, gained};
 use reach::Policy;
 use rules::Request;
 
@@ -29,7 +29,7 @@ fn permissions(p: Policy, objects: u64, u: u8) -> [u64; 8]
 
 // The first permission, target by target and operation by operation, that a request would give a user, were it done: one that he has after
 // it and lacks before, on an object in use before. For every policy, user and request, whatever the checks say of it.
-pub fn permission_gained(p: Policy, u: u8, q: Request) -> Gain
+pub fn permission_gained(p: Policy, u: u8, q: Request) -> Option<Permission>
     ensures { FirstPermission p u q result }
 {
     let m = p.masks();
@@ -40,13 +40,13 @@ pub fn permission_gained(p: Policy, u: u8, q: Request) -> Gain
 
 // The first permission that a record would give its sender, if the board refuses it for own gain, and nothing if it answers otherwise. The
 // verdict is what the board decides; no policy after is worked out for it.
-pub fn own_gain_of(p: Policy, bytes: &[u8]) -> Gain
+pub fn own_gain_of(p: Policy, bytes: &[u8]) -> Option<Permission>
     ensures { OwnGainOf p bytes.now result }
 {
     let decision = decide(p, bytes);
     let verdict = decision.verdict;
     if code_of(verdict) != 10 {
-        return Gain::Nothing;
+        return None;
     }
     let u = decision.sender;
     let q = decision.request;

@@ -10,21 +10,21 @@ returns-then-policy-ne960 c = no_picture _ _ _ c.if-policy-ne960.true
 pub returns-then-gain-lt2 : goal.returns-then-gain-lt2
 returns-then-gain-lt2 c = no_room _ _ _ c.if-policy-ne960.false (omega (arith, c.if-gain-lt2.true))
 
-pub returns-in-Permission : goal.returns-in-Permission
-returns-in-Permission c =
+pub returns-in-Some : goal.returns-in-Some
+returns-in-Some c =
     tells _ _ _ _ _
     c.if-policy-ne960.false
     (omega (arith, c.if-gain-lt2.false))
     c.policy_of.ensures
     c.own_gain_of.ensures
     _ _ _ _
-    c.in-Permission.is
+    c.in-Some.is
     (omega arith)
     (omega arith)
 
-pub returns-in-Nothing : goal.returns-in-Nothing
-returns-in-Nothing c =
+pub returns-in-None : goal.returns-in-None
+returns-in-None c =
     tells_none _ _ _ _ _ c.if-policy-ne960.false (omega (arith, c.if-gain-lt2.false))
     c.policy_of.ensures
     c.own_gain_of.ensures
-    c.in-Nothing.is
+    c.in-None.is

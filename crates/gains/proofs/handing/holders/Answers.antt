@@ -1,22 +1,8 @@
-use native.Mathlib.Omega.{arith}
-use mathlib.Core.Path.{◌≡◌}
-use Rattle.reach.proofs.Unions.{union_none, union_add, union_end}
-use Rattle.std.proofs.Common.{rules}
+use Rattle.reach.proofs.Unions.{union_none, union_add}
 use Rattle.gains.proofs.handing.holders.Goals as goal
 
-pub loop-i-init : goal.loop-i-init
-loop-i-init c = (search rules, union_none _, union_none _)
+pub loop-w-init : goal.loop-w-init
+loop-w-init c = union_none _
 
-pub bounds-appointments-i : goal.bounds-appointments-i
-bounds-appointments-i c = c.loop-i-test.true
-
-pub loop-i-preserved : goal.loop-i-preserved
-loop-i-preserved c =
-    let l = c.loop-i in
-    (search rules, union_add _ l.invariant.1 c.holder_of-more.ensures.0, union_add _ l.invariant.2 c.holder_of-more.ensures.1)
-
-pub returns : goal.returns
-returns c =
-    let l = c.loop-i in
-    let e : l.i ≡ 32 = omega (arith, c.loop-i-test.false, l.invariant.0) in
-    (union_end _ 32 l.invariant.1 e, union_end _ 32 l.invariant.2 e)
+pub loop-w-preserved : goal.loop-w-preserved
+loop-w-preserved c = union_add _ c.loop-w.invariant c.holder_of-set.ensures

@@ -1,19 +1,17 @@
 -- Its U is asked of both sets, and its T.
-use mathlib.Core.Path.{sym, ◌∙◌}
-use mathlib.Core.Bool.{true≢false}
-use borrow.Author.Tests.{not-true, not-false}
-use Rattle.reach.proofs.Testing.{decides_as, decides_at, decides_and, decides_or, decides_none}
+use mathlib.Core.Logic.{inr, ⊎_elim}
+use Rattle.reach.proofs.Testing.{decides_as, decides_at, refuted}
 use Rattle.reach.proofs.WordSets.{has_decides}
 use Rattle.gains.proofs.opening.rule_opens.Goals as goal
 
-pub returns-then-not-rule : goal.returns-then-not-rule
-returns-then-not-rule c = decides_none (λ w. true≢false (sym w.used ∙ not-true _ c.if-not-rule.true))
-
-pub returns : goal.returns
-returns c =
+pub returns-then-covers-2 : goal.returns-then-covers-2
+returns-then-covers-2 c =
+    let covers = c.covers-else-covers.ensures.sound c.if-covers-2.true in
     decides_as
-    (decides_or _ _
     (decides_at c.has.ensures (has_decides _ _))
-    (decides_and _ _ (decides_at c.has-2.ensures (has_decides _ _)) (decides_at c.has-3.ensures (has_decides _ _))))
-    (λ w. record { used = not-false _ c.if-not-rule.false; by = w })
-    (λ w. w.by)
+    (λ b. record { used = covers.used; by = inr (covers.in_u, b) })
+    (λ w.
+    ⊎_elim
+    (λ b. absurd (refuted c.covers.ensures c.if-covers.false (record { used = w.used; in_u = b })))
+    (λ b. b.1)
+    w.by)

@@ -6,7 +6,6 @@ use mathlib.Core.Logic.{inl, inr, ⊎_elim}
 use Prim.Native.Nat.{ℕ, ◌-◌, ◌^◌}
 use native.Mathlib.Omega.{arith}
 use lib.Bits.{and_comm}
-use borrow.Author.Tests.{eq-eqb, ne_eqb}
 use Rattle.reach.specs.declared.Policy.{Policy}
 use Rattle.reach.specs.declared.Placing.{Placing}
 use Rattle.reach.specs.Tables.{Sized, view}
@@ -14,62 +13,56 @@ use Rattle.reach.specs.Reach.{Group, Under}
 use Rattle.reach.proofs.Lists.{length_mapped}
 use Rattle.reach.proofs.Testing.{decides_at, decides_none, refuted}
 use Rattle.reach.proofs.WordSets.{decides_has}
-use Rattle.reach.proofs.Meeting.{read_group, climbed}
 use Rattle.rules.specs.declared.Request.TheVariants.{Put}
 use Rattle.rules.specs.Refusals.{own_gain}
-use Rattle.gains.specs.Lacking.{Above, LacksPut, held_owner, held_manager, pair, permit}
-use Rattle.gains.specs.Lending.{Heard, Ruled, Placed}
+use Rattle.gains.specs.Lacking.{LacksPut, held_owner, held_manager, pair, permit}
+use Rattle.gains.specs.Lending.{Placed}
 use Rattle.gains.proofs.Outright.{put_gains_none, put_own_gain, put_hands_none, put_hand_over}
 use Rattle.gains.proofs.PutGives.{none_lacks_put}
 use Rattle.gains.proofs.PutAgain.{put_again_gains, put_again_hands}
 use Rattle.gains.proofs.Searched.{has_of}
 use Rattle.gains.proofs.PutOver.{over_decides}
 use Rattle.gains.proofs.Covering.{lacks_permit_opens}
-use Rattle.gains.proofs.Lending.{held_none, held_had}
+use Rattle.gains.proofs.Lending.{above_by, group_lent, held_none, held_had}
 use Rattle.gains.proofs.Looking.{decides_found, grows_lacks, lacks_grows}
 use Rattle.gains.proofs.Verdicts.{given_own, given_over}
 use Rattle.std.proofs.Common.{rules}
-use Rattle.gains.proofs.putting.put_gives.Goals.{After-sort_in, Else-sort_in-ne1, Joined-rules_open}
-use Rattle.gains.proofs.putting.put_gives.Goals.{then-rules_open+else-is_found, else-rules_open}
+use Rattle.gains.proofs.putting.put_gives.Goals.{After-is_group, Else-not-is_group, Joined-rules_open}
+use Rattle.gains.proofs.putting.put_gives.Goals.{then-rules_open+else-is_some, else-rules_open}
 use Rattle.gains.proofs.putting.put_gives.Goals as goal
 
--- What is known of the PUT gives: the sender is heard, the rules are lent, and he gains exactly if he lacks something.
+-- What is known of the PUT gives: the sender gains exactly if he lacks something.
 module _ {p : Policy} {u x g : ℕ} {asked : Placing} where
-  heard : Placed p u x g asked → Heard p p.sorts p.memberships p.appointments u
-  heard e = record { lent = record { sorts = refl; memberships = refl }; appointments = refl; user = e.user }
-
   gains : Sized p → Group (view p) g → Placed p u x g asked → LacksPut (view p) u x g → true ≡ own_gain p u (Put x g)
   gains z group e l = put_own_gain _ z _ _ _ e.used group true e.user (decides_found l)
 
   gains_not : Sized p → Group (view p) g → Placed p u x g asked → (LacksPut (view p) u x g → ⊥) → false ≡ own_gain p u (Put x g)
   gains_not z group e n = put_own_gain _ z _ _ _ e.used group false e.user (decides_none n)
 
-ruled : (p : Policy) → Ruled p p.sorts p.memberships p.rules
-ruled p = record { lent = record { sorts = refl; memberships = refl }; rules = refl }
-
 -- The tables of the policy have their sizes, and past the first test g is a group.
-sized : (c : After-sort_in) → Sized c.args.p
+sized : (c : After-is_group) → Sized c.args.p
 sized c = search (rules, length_mapped)
 
-group : (c : Else-sort_in-ne1) → Group (view c.args.p) c.args.g
-group c = (read_group c.args.p c.args.g c.sort_in.ensures).sound (eq-eqb _ _ c.if-sort_in-ne1.false)
+group : (c : Else-not-is_group) → Group (view c.args.p) c.args.g
+group c = (group_lent c.args.p c.args.g c.objects-objects.ensures.sorts c.is_group.ensures).sound c.if-not-is_group.false
 
 -- Past the four ways to gain there is none: he does not hold the group and not the object, no pair comes, and no permission is found.
 none : (c : Joined-rules_open) → let a = c.args in Placed a.p a.u a.x a.g a.asked → LacksPut (view a.p) a.u a.x a.g → ⊥
 none c e =
     let a = c.args in
     let grows = refuted c.posts_grow.ensures c.if-posts_grow.false in
-    let over : Above a.p a.u c.climb-over.result = climbed _ c.climb-over.ensures in
+    let t = c.objects-objects.ensures in
+    let over = above_by a.p t.sorts t.memberships c.above-over.ensures in
     none_lacks_put
     (λ l. grows (inl (lacks_grows _ e.asked.posts.owner e.asked.first e.asked.second l)))
     (λ l. grows (inr (lacks_grows _ e.asked.posts.manager e.asked.first e.asked.second l)))
-    (refuted (c.pairs_come.ensures _ _ _ (heard e) e.asked.first e.asked.second) c.if-pairs_come.false)
+    (refuted (c.pairs_come.ensures _ _ e) c.if-pairs_come.false)
     (λ l.
     elim c.if-rules_open.branch [
-      | then-rules_open+else-is_found w ↦
+      | then-rules_open+else-is_some w ↦
           refuted
-          (decides_at w.is_found.ensures (w.put_permission.ensures _ _ _ (ruled a.p) e.user over e.asked.second))
-          w.if-is_found.false
+          (decides_at w.is_some.ensures (w.put_permission.ensures _ _ e.user over e.asked.second))
+          w.if-is_some.false
           l
       | else-rules_open w ↦
           refuted
@@ -83,18 +76,18 @@ none c e =
     ])
 
 -- Into what is no group it gives and hands over nothing.
-pub returns-then-sort_in-ne1 : goal.returns-then-sort_in-ne1
-returns-then-sort_in-ne1 c =
-    let z = sized (goal.at.returns-then-sort_in-ne1 c).After-sort_in in
-    let n = refuted (read_group c.args.p c.args.g c.sort_in.ensures) (ne_eqb _ _ c.if-sort_in-ne1.true) in
+pub returns-then-not-is_group : goal.returns-then-not-is_group
+returns-then-not-is_group c =
+    let z = sized (goal.at.returns-then-not-is_group c).After-is_group in
+    let n = refuted (group_lent c.args.p c.args.g c.objects-objects.ensures.sorts c.is_group.ensures) c.if-not-is_group.true in
     λ _. given_over _ _ _ (put_gains_none _ z _ _ _ (λ w. n w.1.1)) (put_hands_none _ z _ _ _ (λ w. n w.1)) refl
 
 -- The object is under the group already.
 pub returns-then-has : goal.returns-then-has
 returns-then-has c =
     let w = goal.at.returns-then-has c in
-    let z = sized w.After-sort_in in
-    let t = group w.Else-sort_in-ne1 in
+    let z = sized w.After-is_group in
+    let t = group w.Else-not-is_group in
     let a = c.args in
     let here = has_of a.asked.first a.g c.has.ensures (omega arith) (omega arith) in
     λ e.
@@ -108,7 +101,7 @@ pub returns-then-posts_grow : goal.returns-then-posts_grow
 returns-then-posts_grow c =
     let w = goal.at.returns-then-posts_grow c in
     λ e. given_own _ _ _
-    (gains (sized w.After-sort_in) (group w.Else-sort_in-ne1) e
+    (gains (sized w.After-is_group) (group w.Else-not-is_group) e
     (⊎_elim
     (λ w. held_owner (grows_lacks _ e.asked.posts.owner e.asked.first e.asked.second w))
     (λ w. held_manager (grows_lacks _ e.asked.posts.manager e.asked.first e.asked.second w))
@@ -118,25 +111,26 @@ pub returns-then-pairs_come : goal.returns-then-pairs_come
 returns-then-pairs_come c =
     let w = goal.at.returns-then-pairs_come c in
     λ e. given_own _ _ _
-    (gains (sized w.After-sort_in) (group w.Else-sort_in-ne1) e
-    (pair ((c.pairs_come.ensures _ _ _ (heard e) e.asked.first e.asked.second).sound c.if-pairs_come.true)))
+    (gains (sized w.After-is_group) (group w.Else-not-is_group) e
+    (pair ((c.pairs_come.ensures _ _ e).sound c.if-pairs_come.true)))
 
-pub returns-then-is_found : goal.returns-then-is_found
-returns-then-is_found c =
-    let w = goal.at.returns-then-is_found c in
-    let over : Above c.args.p c.args.u c.climb-over.result = climbed _ c.climb-over.ensures in
+pub returns-then-is_some : goal.returns-then-is_some
+returns-then-is_some c =
+    let w = goal.at.returns-then-is_some c in
+    let t = c.objects-objects.ensures in
+    let over = above_by c.args.p t.sorts t.memberships c.above-over.ensures in
     λ e. given_own _ _ _
-    (gains (sized w.After-sort_in) (group w.Else-sort_in-ne1) e
+    (gains (sized w.After-is_group) (group w.Else-not-is_group) e
     (permit
-    ((decides_at c.is_found.ensures (c.put_permission.ensures _ _ _ (ruled c.args.p) e.user over e.asked.second)
+    ((decides_at c.is_some.ensures (c.put_permission.ensures _ _ e.user over e.asked.second)
     ).sound
-    c.if-is_found.true)))
+    c.if-is_some.true)))
 
 pub returns-then-posts-object-ne0 : goal.returns-then-posts-object-ne0
 returns-then-posts-object-ne0 c =
     let w = goal.at.returns-then-posts-object-ne0 c in
-    let z = sized w.After-sort_in in
-    let t = group w.Else-sort_in-ne1 in
+    let z = sized w.After-is_group in
+    let t = group w.Else-not-is_group in
     let same = and_comm c.args.asked.posts.owner c.args.asked.first in
     λ e. given_over _ _ _
     (gains_not z t e (none w.Joined-rules_open e))
@@ -147,13 +141,13 @@ returns-then-posts-object-ne0 c =
 pub returns : goal.returns
 returns c =
     let w = goal.at.returns c in
-    let z = sized w.After-sort_in in
-    let t = group w.Else-sort_in-ne1 in
+    let z = sized w.After-is_group in
+    let t = group w.Else-not-is_group in
     let same = and_comm c.args.asked.posts.owner c.args.asked.first in
     λ e. given_over _ _ _
     (gains_not z t e (none w.Joined-rules_open e))
     (put_hand_over _ z _ _ _ e.used t _
     (over_decides _
     (held_none _ e.asked.posts.owner e.asked.first (omega (arith, c.if-posts-object-ne0.false, same)))
-    (c.hands_over.ensures _ _ _ refl refl e.asked.first e.asked.second)))
+    (c.hands_over.ensures _ _ e.asked.first e.asked.second)))
     c.if_so.ensures

@@ -8,8 +8,8 @@ use Rattle.rules.specs.declared.Request.{Request}
 use Rattle.rules.specs.Judging.{Verdict}
 use Rattle.rules.specs.Records.{sender, request}
 use Rattle.rules.specs.Judging.{code_of, judge}
-use Rattle.gains.specs.declared.Gain.{Gain}
-use Rattle.gains.specs.declared.Gain.TheVariants.{Nothing}
+use Rattle.std.specs.Prelude.{Option, None}
+use Rattle.gains.specs.declared.Permission.{Permission}
 use Rattle.gains.specs.Giving.{FirstPermission}
 use Rattle.judge.specs.declared.Decision.{Decision}
 use Rattle.judge.specs.Answering.{decided}
@@ -20,10 +20,10 @@ module _ (p : Policy) (b : List ℕ) (v : Verdict) (code : ℕ) (judged : v ≡ 
   answered : code ≡ code_of (judge p b).verdict
   answered = coded ∙ ap code_of judged
 
-  untold : (code ≡ 10 → ⊥) → OwnGainOf p b Nothing
+  untold : (code ≡ 10 → ⊥) → OwnGainOf p b None
   untold other = record { refused = λ e. absurd (other (answered ∙ e)); otherwise = λ _. refl }
 
-  told : (u : ℕ) (q : Request) (g : Gain) → code ≡ 10 → u ≡ sender b → q ≡ request b → FirstPermission p u q g → OwnGainOf p b g
+  told : (u : ℕ) (q : Request) (g : Option Permission) → code ≡ 10 → u ≡ sender b → q ≡ request b → FirstPermission p u q g → OwnGainOf p b g
   told u q g ten sent asked first =
       record {
         refused = λ _. subst (λ (q : Request). FirstPermission p (sender b) q g) asked
