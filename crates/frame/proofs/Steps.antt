@@ -9,8 +9,8 @@ use lib.Dec.{ltb, leb}
 use lib.ListN.{length, drop, length-drop}
 use lib.Seq.{length-take-le, get_or-take}
 use borrow.Author.Tests.{ltb-false, leb-true, leb-false, le-leb}
-use Rattle.frame.specs.declared.Step.{Step}
-use Rattle.frame.specs.declared.Step.TheVariants.{Record, Torn, End}
+use Rattle.frame.specs.Reading.{Step}
+use Rattle.frame.specs.Reading.{Record, Torn, End}
 use Rattle.frame.specs.Fields.{little_endian, length_field}
 use Rattle.frame.specs.Reading.{torn, step_at, record_bytes}
 
