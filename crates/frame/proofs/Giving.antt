@@ -2,7 +2,7 @@
 use Rattle.std.specs.Prelude.{⊤, Option, Some, None, Result, Ok, Err, option_map}
 use Rattle.std.specs.Iterator.{YieldsFirstBy, MakesProgress, item_count}
 use Rattle.std.specs.Borrow.{Bor}
-use mathlib.Core.Path.{◌≡◌, ap, ap₂, ◌∙◌}
+use mathlib.Core.Path.{◌≡◌, refl, sym, ap, ap₂, ◌∙◌}
 use mathlib.Core.Bool.{Bool, true, false, cond}
 use mathlib.Core.List.{List, [], ◌∷◌, ◌++◌, map}
 use Prim.Native.Nat.{ℕ, ◌+◌, ◌≤◌, zero-le}
@@ -10,7 +10,7 @@ use native.Mathlib.Omega.{arith}
 use lib.ListN.{length, take, length-append, length-map}
 use Rattle.frame.specs.declared.Torn as mark
 use Rattle.frame.specs.declared.Reader.{Reader}
-use Rattle.frame.specs.Reading.{Step, Record, Torn, End, step_at, record_bytes, records_from, torn_from, steps_of, item, marked}
+use Rattle.frame.specs.Reading.{Step, Record, Torn, End, step_at, record_bytes, records_from, torn_from, steps_of, Item, item, marked}
 use Rattle.frame.specs.Reading.{items_from, left, found, place_after, bytes_after, Goes}
 use Rattle.std.proofs.lemmas.List.{length-take}
 use Rattle.std.proofs.lemmas.Iterator.{YieldsList}
@@ -87,3 +87,57 @@ steps_few b = omega (arith, records_few b 0 zero-le)
 -- A reader gives all that it has left, in its order.
 pub given_left : (r : Reader) → YieldsList Goes item r (left r)
 given_left r = YieldsList-from_shown Goes item left (λ s t g. ap length g.first.0) (λ s x t g. g.first) r
+
+-- ---- A loop over what a reader gives
+
+-- What is to come: the records, and behind them, if the bytes are torn there, the mark.
+pub record Coming (items : List Item) (records : List (List ℕ)) (torn : Bool) : Type 0 where
+  pub are : items ≡ map (λ (r : List ℕ). Ok r) records ++ marked torn
+
+-- At a position those from there on.
+pub coming_from : (b : List ℕ) (at : ℕ) → Coming (items_from b at) (records_from b at) (torn_from b at)
+unfolding items_from
+coming_from b at = record { are = refl }
+
+-- A record is the first of those to come.
+pub record First (r : List ℕ) (items : List Item) (records : List (List ℕ)) (torn : Bool) : Type 0 where
+  pub others : List (List ℕ)
+  pub is_first : records ≡ r ∷ others
+  pub coming : Coming items others torn
+
+pub coming_record : {r : List ℕ} {all items : List Item} {records : List (List ℕ)} {torn : Bool} → Coming all records torn
+    → all ≡ Ok r ∷ items → First r items records torn
+coming_record {r} {all} {items} {records} {torn} c e = go records torn (sym e ∙ c.are)
+  where
+    go : (records : List (List ℕ)) (torn : Bool) → Ok r ∷ items ≡ map (λ (r : List ℕ). Ok r) records ++ marked torn
+        → First r items records torn
+    go [] true h = cc
+    go [] false h = cc
+    go (x ∷ rest) torn h = record { others = rest; is_first = cc; coming = record { are = cc } }
+
+-- A mark comes where no record is left, and is the last.
+pub record Last (items : List Item) (records : List (List ℕ)) (torn : Bool) : Type 0 where
+  pub none : records ≡ []
+  pub is_torn : torn ≡ true
+  pub coming : Coming items [] false
+
+pub coming_torn : {m : mark.Torn} {all items : List Item} {records : List (List ℕ)} {torn : Bool} → Coming all records torn
+    → all ≡ Err m ∷ items → Last items records torn
+coming_torn {m} {all} {items} {records} {torn} c e = go records torn (sym e ∙ c.are)
+  where
+    go : (records : List (List ℕ)) (torn : Bool) → Err m ∷ items ≡ map (λ (r : List ℕ). Ok r) records ++ marked torn
+        → Last items records torn
+    go [] true h = record { none = refl; is_torn = refl; coming = record { are = cc } }
+    go [] false h = cc
+    go (x ∷ rest) torn h = cc
+
+-- At the end nothing is to come.
+pub coming_none : {all : List Item} {records : List (List ℕ)} {torn : Bool} → Coming all records torn → all ≡ []
+    → (records ≡ []) × (torn ≡ false)
+coming_none {all} {records} {torn} c e = go records torn (sym e ∙ c.are)
+  where
+    go : (records : List (List ℕ)) (torn : Bool) → [] ≡ map (λ (r : List ℕ). Ok r) records ++ marked torn
+        → (records ≡ []) × (torn ≡ false)
+    go [] true h = cc
+    go [] false h = (refl, refl)
+    go (x ∷ rest) torn h = cc
