@@ -92,11 +92,9 @@ pub extern "C" fn selkaum_run(
     if policy.len() < 960 {
         return 0;
     }
-    let outcome = list::run_list(bytes, ends, codes, cited);
-    if !outcome.ran {
+    let Some(after) = list::run_list(bytes, ends, codes, cited) else {
         return 0;
-    }
-    let after = outcome.policy;
+    };
     put_policy(policy, after);
     960
 }

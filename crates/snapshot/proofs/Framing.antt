@@ -10,7 +10,7 @@ use lib.Dec.{leb, ltb}
 use lib.ListN.{length, take, drop, length-append}
 use lib.Seq.{drop_at, take-append-le, take_all}
 use borrow.Author.Tests.{lt-leb, le-ltb}
-use Rattle.frame.specs.declared.Step.TheVariants.{Record, End}
+use Rattle.frame.specs.Reading.{Record, End}
 use Rattle.frame.specs.Fields.{length_field}
 use Rattle.frame.specs.Reading.{step_at, record_bytes, records_from, torn_from}
 use Rattle.frame.proofs.Steps.{end_step}
