@@ -10,12 +10,8 @@ use lib.Dec.{leb, ltb}
 use lib.ListN.{length, take, drop, length-append}
 use lib.Seq.{drop_at, take-append-le, take_all}
 use borrow.Author.Tests.{lt-leb, le-ltb}
-<<<<<<< HEAD
-use Rattle.frame.specs.Reading.{Record, End}
-=======
 use Rattle.std.specs.Prelude.{Option, Some, None}
-use Rattle.frame.specs.declared.Step.TheVariants.{Record, End}
->>>>>>> 1260c2536d30dd21540380a14cc48857d5f71e0a
+use Rattle.frame.specs.Reading.{Record, End}
 use Rattle.frame.specs.Fields.{length_field}
 use Rattle.frame.specs.Reading.{step_at, record_bytes, records_from, torn_from}
 use Rattle.frame.proofs.Steps.{end_step}
