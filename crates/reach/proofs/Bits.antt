@@ -157,6 +157,18 @@ unfolding count_trailing_zeros
 lowest_bit zero s n h = absurd (n (lt-one h))
 lowest_bit (suc k) s n h = lowest_step k s (λ m. lowest_bit k (s / 2) m (omega (arith, pow-suc 2 k))) n (s % 2) refl
 
+-- No number below it is in the set.
+pub lowest_none : (k s x : ℕ) → x < count_trailing_zeros k s → bit s x ≡ 0
+unfolding count_trailing_zeros
+lowest_none zero s x l = absurd (not-suc-le-zero l)
+lowest_none (suc k) s x l = go (s % 2) refl x l (lowest_none k (s / 2))
+  where
+    go : (d : ℕ) → s % 2 ≡ d → (x : ℕ) → x < under d (count_trailing_zeros k (s / 2))
+        → ((y : ℕ) → y < count_trailing_zeros k (s / 2) → bit (s / 2) y ≡ 0) → bit s x ≡ 0
+    go zero e zero l more = bit_at_zero s ∙ e
+    go zero e (suc y) l more = bit_suc s y ∙ more y (le_of_suc-le-suc l)
+    go (suc d) e x l more = absurd (not-suc-le-zero l)
+
 -- A number of j + 1 bits that has no fewer has bit j.
 top_bit : (j s : ℕ) → 2 ^ j ≤ s → s < 2 ^ suc j → bit s j ≡ 1
 top_bit zero s l u = bit_at_zero s ∙ omega (arith, l, u)

@@ -11,7 +11,7 @@ use lib.Bits.{bit_and, bit_or, and_le_l}
 use lib.Arith.{lt_of_le-ne}
 use borrow.Author.Tests.{eq-eqb}
 use lib.Pow.{ones_sub-lt, pow_pos}
-use Rattle.reach.specs.Words.{bit, has, SetOf}
+use Rattle.reach.specs.Words.{bit, has, SetOf, LowestOf}
 use Rattle.reach.specs.Tests.{Decides}
 use Rattle.reach.specs.Successors.{without_bit}
 use Rattle.reach.proofs.OneBit.{and_is_without}
@@ -55,6 +55,10 @@ module _ {left : ℕ} (word : left < 2 ^ 64) (h : ℕ) (e : bit left h ≡ 1) wh
         | yes q ↦ q
         | no d ↦ absurd (n (left_rest.all y (o, (set_below (set_bits left word) y o, d))))
       ]
+
+-- Without its lowest number a set is the machine's word without it.
+pub without_lowest : {left h t : ℕ} → left < 2 ^ 64 → LowestOf left h t → t ≡ bit_and left (2 ^ 64 - 1 - (1 * 2 ^ h) % 2 ^ 64)
+without_lowest {left} {h} word o = o.rest ∙ ap (λ (n : ℕ). left - n) (sym (one_shl h o.low)) ∙ left_without word h o.in_set
 
 -- ---- Numbers picked
 

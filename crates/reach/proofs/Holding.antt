@@ -1,5 +1,5 @@
 -- What a user holds over two objects, told by the single tables at once: each part is the test of the policy's own question.
-use mathlib.Core.Path.{◌≡◌, refl, sym, ◌∙◌}
+use mathlib.Core.Path.{◌≡◌, refl, sym}
 use mathlib.Core.Bool.{Bool, true, false, not, ◌&&◌}
 use Prim.Native.Nat.{ℕ}
 use lib.Bits.{bit_and}

@@ -2,17 +2,19 @@
 -- By induction on x, halving: each is the word with its binary digit at x written over.
 use mathlib.Core.Path.{◌≡◌, refl, sym, ap, ◌∙◌}
 use mathlib.Core.Bool.{Bool, true, false}
+use mathlib.Core.List.{List, [], ◌∷◌}
 use Prim.Native.Nat.{ℕ, zero, suc, ◌+◌, ◌-◌, ◌*◌, ◌/◌, ◌%◌, ◌^◌, ◌≤◌, ◌<◌}
 use native.Mathlib.Nat.{pow-suc, mod-eq_of_lt, not-suc-le-zero, le_of_suc-le-suc}
 use native.Mathlib.Omega.{arith}
 use lib.Dec.{eqb, eqb-zero-suc, eqb-suc-zero, eqb-suc-suc}
 use lib.Bits.{bit_or, bit_and, or_step, or_zero_r, and_step, and_mask}
+use lib.ListN.{get_or, set}
 use lib.Pow.{pow_pos, pow-lt}
 use borrow.Author.Tests.{eqb-true, eqb-false}
 use Rattle.reach.specs.Words.{bit, has}
 use Rattle.reach.specs.Tests.{◌⇒◌∥◌}
 use Rattle.reach.specs.Successors.{with_bit, without_bit}
-use Rattle.reach.proofs.Bits.{bit_le, bit_at_zero, bit_suc, one_shl}
+use Rattle.reach.proofs.Bits.{bit_le, bit_at_zero, bit_suc, bit_zero, one_shl}
 
 -- ---- The word w with the digit d at x
 
@@ -109,3 +111,14 @@ or_is_with x w h = ap (bit_or w) (one_shl x h) ∙ or_written x w ∙ sym (with_
 pub and_is_without : (x w : ℕ) → x < 64 → w < 2 ^ 64 → bit_and w (2 ^ 64 - 1 - (1 * 2 ^ x) % 2 ^ 64) ≡ without_bit x w
 and_is_without x w h l =
     ap (λ (n : ℕ). bit_and w (2 ^ 64 - 1 - n)) (one_shl x h) ∙ and_written 64 x w h l ∙ sym (without_written x w)
+
+-- A row emptied and then with g is the machine's `1 << g`.
+with_none : (g : ℕ) → g < 64 → with_bit g 0 ≡ (1 * 2 ^ g) % 2 ^ 64
+unfolding with_bit has
+with_none g h = rw (bit_zero g, one_shl g h) (omega arith)
+
+pub row_of_one : (l : List ℕ) (x g : ℕ) → g < 64
+    → set (set l x 0) x (with_bit g (get_or (set l x 0) x 0)) ≡ set l x ((1 * 2 ^ g) % 2 ^ 64)
+row_of_one [] x g h = refl
+row_of_one (a ∷ l) zero g h = ap (λ (w : ℕ). w ∷ l) (with_none g h)
+row_of_one (a ∷ l) (suc x) g h = ap (λ t. a ∷ t) (row_of_one l x g h)

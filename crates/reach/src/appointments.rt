@@ -1,36 +1,24 @@
 // What is read of the appointments alone.
-ghost use Rattle.std.specs.Prelude.{◌≡◌, ◌<◌, get_or};
+ghost use Rattle.std.specs.Prelude.{◌≡◌, ◌<◌, get_or, Bool, true};
 ghost use Rattle.reach.specs.Words.{SetOf};
 ghost use Rattle.reach.specs.Tests.{Some, Decides};
+ghost use Rattle.reach.specs.declared.Appointment.{Appointment};
 ghost use Rattle.reach.specs.Tables.{no_appointment};
 ghost use Rattle.reach.specs.Privileges.{owner, manager};
 ghost use Rattle.reach.specs.Asking.{HasA, AppointedOver, PostsIn, CoversPair, HasB, HasFirst, OwnersA};
 
-use crate::sets::{has, just, mark, only_if};
+use crate::sets::{Members, has, just, mark, only_if};
 use crate::{Appointment, Objects, Post, Posts, Sides};
 
-// The places whose appointment u holds. There is no branch on a place, since the processor can't guess which of them are his.
-fn held_by(appointments: &[Appointment; 32], u: u8) -> u32
-    ensures { SetOf result (λ i. (i < 32) × ((get_or appointments.now i no_appointment).holder ≡ u)) }
+// The places whose appointment passes the test. There is no branch on a place, since the processor can't guess which of them do.
+fn places<F: Fn(Appointment) -> bool>(appointments: &[Appointment; 32], test: F) -> u32
+    requires { F.IsAlwaysCallable test }
+    ensures { (passes : Appointment → Bool) → ((w : Appointment) (t : Bool) → F.post test w t → t ≡ passes w) →
+        SetOf result (λ i. (i < 32) × (passes (get_or appointments.now i no_appointment) ≡ true)) }
 {
-    let mut set: u32 = 0;
-    let mut i: usize = 0;
-    while i < 32 {
-        set |= mark(appointments[i].holder == u, i);
-        i += 1;
-    }
-    set
-}
-
-// The places whose appointment is of that kind.
-fn of_kind(appointments: &[Appointment; 32], kind: u8) -> u32
-    ensures { SetOf result (λ i. (i < 32) × ((get_or appointments.now i no_appointment).kind ≡ kind)) }
-{
-    let mut set: u32 = 0;
-    let mut i: usize = 0;
-    while i < 32 {
-        set |= mark(appointments[i].kind == kind, i);
-        i += 1;
+    let mut set = 0;
+    for (i, w) in appointments.iter().enumerate() {
+        set |= mark(test(*w), i);
     }
     set
 }
@@ -47,85 +35,53 @@ fn posts_by(w: Appointment) -> Posts
     }
 }
 
-// What u is appointed over, as an owner and as a manager: of the places that are his, the lowest first.
-pub fn posts_of(appointments: &[Appointment; 32], u: u8) -> Posts
-    ensures { PostsIn appointments.now u result }
-{
-    let mut owner: u64 = 0;
-    let mut manager: u64 = 0;
-    let mut left = held_by(appointments, u);
-    while left != 0 {
-        let i = u32::trailing_zeros(left) as usize;
-        let posts = posts_by(appointments[i]);
-        owner |= posts.owner;
-        manager |= posts.manager;
-        left &= !(1u32 << i);
-    }
-    Posts { owner, manager }
-}
-
-// Whether this appointment, if it is an administrator's, has its A in the one set and its B in the other, for its holder.
-fn pair_by(w: Appointment, first: u64, second: u64) -> bool
-    ensures { Decides result (CoversPair w w.holder first second) }
-{
-    (w.kind == Post::Administrator as u8) & has(first, w.a) & has(second, w.b)
-}
-
-// The same for u: another's appointment does not.
+// Whether this is an administrator's appointment of u's with its A in the one set and its B in the other.
 fn covers(w: Appointment, u: u8, first: u64, second: u64) -> bool
     ensures { Decides result (CoversPair w u first second) }
 {
-    if w.holder != u {
-        return false;
-    }
-    pair_by(w, first, second)
+    w.holder == u && (w.kind == Post::Administrator as u8) & has(first, w.a) & has(second, w.b)
 }
 
-// Whether one of u's administrator's appointments does.
+// Whether one of u's appointments covers the pair of sets so.
 pub fn covers_pair(appointments: &[Appointment; 32], u: u8, first: u64, second: u64) -> bool
     ensures { Decides result (Some 32 (λ i. CoversPair (get_or appointments.now i no_appointment) u first second)) }
 {
-    let mut i: usize = 0;
-    while i < 32 {
-        if covers(appointments[i], u, first, second) {
-            return true;
-        }
-        i += 1;
-    }
-    false
+    appointments.iter().any(|w| covers(*w, u, first, second))
 }
 
-// What u's appointments give him: what he is appointed over, as an owner and as a manager, and whether an administrator's one covers a pair.
+// What u's appointments give him: what he is appointed over, and whether an administrator's one covers a pair.
 #[derive(Clone, Copy)]
 pub struct Given {
-    pub owner: u64,
-    pub manager: u64,
+    pub posts: Posts,
     pub pair: bool,
 }
 
-// The posts of u, and whether one of his administrator's appointments covers the pair of sets: his places are gone through once.
+// The posts of u, and whether one of his appointments covers the pair of sets: his places are gone through once.
 pub fn given_to(appointments: &[Appointment; 32], u: u8, first: u64, second: u64) -> Given
-    ensures { SetOf result.owner (AppointedOver appointments.now owner u) × SetOf result.manager (AppointedOver appointments.now manager u) ×
+    ensures { PostsIn appointments.now u result.posts ×
         Decides result.pair (Some 32 (λ i. CoversPair (get_or appointments.now i no_appointment) u first second)) }
 {
-    let mut owner: u64 = 0;
-    let mut manager: u64 = 0;
+    let mut owner = 0;
+    let mut manager = 0;
     let mut pair = false;
-    let mut left = held_by(appointments, u);
-    while left != 0 {
-        let i = u32::trailing_zeros(left) as usize;
+    for i in Members(u64::from(places(appointments, |w| w.holder == u))) {
         let w = appointments[i];
         let posts = posts_by(w);
         owner |= posts.owner;
         manager |= posts.manager;
-        pair |= pair_by(w, first, second);
-        left &= !(1u32 << i);
+        pair |= covers(w, u, first, second);
     }
     Given {
-        owner,
-        manager,
+        posts: Posts { owner, manager },
         pair,
     }
+}
+
+// What u is appointed over, as an owner and as a manager.
+pub fn posts_of(appointments: &[Appointment; 32], u: u8) -> Posts
+    ensures { PostsIn appointments.now u result }
+{
+    given_to(appointments, u, 0, 0).posts
 }
 
 // The sides of this appointment whose other side is in the set, if it is an administrator's, for its holder.
@@ -145,15 +101,12 @@ pub fn sides_of(appointments: &[Appointment; 32], u: u8, set: u64) -> Sides
     ensures { SetOf result.first (λ a. Some 32 (λ i. (a < 64) × HasFirst (get_or appointments.now i no_appointment) u set a)) ×
         SetOf result.second (λ b. Some 32 (λ i. (b < 64) × HasB (get_or appointments.now i no_appointment) u set b)) }
 {
-    let mut first: u64 = 0;
-    let mut second: u64 = 0;
-    let mut left = held_by(appointments, u);
-    while left != 0 {
-        let i = u32::trailing_zeros(left) as usize;
+    let mut first = 0;
+    let mut second = 0;
+    for i in Members(u64::from(places(appointments, |w| w.holder == u))) {
         let sides = sides_by(appointments[i], set);
         first |= sides.first;
         second |= sides.second;
-        left &= !(1u32 << i);
     }
     Sides { first, second }
 }
@@ -162,13 +115,10 @@ pub fn sides_of(appointments: &[Appointment; 32], u: u8, set: u64) -> Sides
 pub fn owners_from(objects: Objects, appointments: &[Appointment; 32]) -> u64
     ensures { SetOf result (λ a. Some 32 (λ i. (a < 64) × OwnersA objects.entry.sorts.now (get_or appointments.now i no_appointment) a)) }
 {
-    let mut set: u64 = 0;
-    let mut left = of_kind(appointments, Post::Owner as u8);
-    while left != 0 {
-        let i = u32::trailing_zeros(left) as usize;
+    let mut set = 0;
+    for i in Members(u64::from(places(appointments, |w| w.kind == Post::Owner as u8))) {
         let w = appointments[i];
         set |= only_if(objects.is_user(w.holder), just(w.a));
-        left &= !(1u32 << i);
     }
     set
 }

@@ -18,7 +18,7 @@ pub use appointments::{covers_pair, posts_of, sides_of};
 pub use climbing::climb;
 pub use orphans::ownerless;
 pub use rounds::not_under;
-pub use sets::{has, just, only_if};
+pub use sets::{Members, has, just, only_if};
 pub use successors::{dismiss, take_out};
 pub use tables::{appointment_at, rule_at, sort_in};
 

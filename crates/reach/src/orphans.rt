@@ -4,6 +4,7 @@ ghost use Rattle.reach.specs.Privileges.{orphaned};
 ghost use Rattle.reach.specs.Asking.{tables_of, Looking, Closed};
 
 use crate::appointments::owners_from;
+use crate::sets::Members;
 use crate::{Appointment, Objects, Sort};
 
 // The groups that are found owned, and the objects in use that are not found owned yet, as sets.
@@ -54,14 +55,11 @@ fn round(objects: Objects, had: u64, waiting: u64) -> Found
     let memberships = objects.memberships;
     let mut groups = had;
     let mut left = waiting;
-    let mut rest = waiting;
-    while rest != 0 {
-        let h = u64::trailing_zeros(rest) as usize;
-        let one = 1u64 << h;
-        rest &= !one;
+    for h in Members(waiting) {
         if memberships[h] & groups == 0 {
             continue;
         }
+        let one = 1u64 << h;
         left &= !one;
         if sorts[h] == Sort::Group as u8 {
             groups |= one;

@@ -62,12 +62,12 @@ impl Policy {
         let given = given_to(&self.appointments, u, over_x, over_y);
         let user = objects.is_user(u);
         let first = Over {
-            owned: user & (given.owner & over_x != 0),
-            managed: user & (given.manager & over_x != 0),
+            owned: user & (given.posts.owner & over_x != 0),
+            managed: user & (given.posts.manager & over_x != 0),
         };
         let second = Over {
-            owned: user & (given.owner & over_y != 0),
-            managed: user & (given.manager & over_y != 0),
+            owned: user & (given.posts.owner & over_y != 0),
+            managed: user & (given.posts.manager & over_y != 0),
         };
         Held {
             first,

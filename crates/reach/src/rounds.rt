@@ -7,7 +7,7 @@ ghost use Rattle.reach.specs.Reach.{InUse, Under};
 ghost use Rattle.reach.specs.Asking.{reach_of, UnderSomeBy};
 ghost use Rattle.reach.specs.Surveys.{Whose};
 
-use crate::sets::{just, only_if};
+use crate::sets::{Members, just, only_if};
 use crate::surveying::masks_of;
 use crate::{Masks, Objects, Policy};
 
@@ -20,12 +20,8 @@ pub fn descend(memberships: &[u64; 64], m: Masks, set: u64) -> u64
     let mut done: u64 = 0;
     while found != done {
         done = found;
-        let mut left = m.objects & !found;
-        while left != 0 {
-            let h = u64::trailing_zeros(left) as usize;
-            let one = 1u64 << h;
-            found |= only_if(memberships[h] & found & m.groups != 0, one);
-            left &= !one;
+        for h in Members(m.objects & !found) {
+            found |= only_if(memberships[h] & found & m.groups != 0, 1 << h);
         }
     }
     found

@@ -15,20 +15,17 @@ fn covered(rule: AccessRule, k: u8, users: u64, targets: u64) -> bool
     if !rule.used {
         return false;
     }
-    has(rule.operations as u64, k) & has(users, rule.users) & has(targets, rule.targets)
+    has(u64::from(rule.operations), k) & has(users, rule.users) & has(targets, rule.targets)
 }
 
 // The lowest place of a rule that is in use, has the operation, and whose U and T are in the sets; or none.
 pub fn covering(rules: &[AccessRule; 64], k: u8, users: u64, targets: u64) -> Option<u8>
     ensures { result ≡ lowest 64 (λ i. covered_by (get_or rules.now i no_rule) k users targets) }
 {
-    let mut i: u8 = 0;
-    while i < 64 {
-        let n = i as usize;
-        if covered(rules[n], k, users, targets) {
-            return Some(i);
+    for (i, rule) in rules.iter().enumerate() {
+        if covered(*rule, k, users, targets) {
+            return Some(i as u8);
         }
-        i += 1;
     }
     None
 }
@@ -40,7 +37,7 @@ fn t_of(rule: AccessRule, k: u8, users: u64) -> u64
     if !rule.used {
         return 0;
     }
-    if !(has(rule.operations as u64, k) & has(users, rule.users)) {
+    if !(has(u64::from(rule.operations), k) & has(users, rule.users)) {
         return 0;
     }
     just(rule.targets)
@@ -50,11 +47,9 @@ fn t_of(rule: AccessRule, k: u8, users: u64) -> u64
 pub fn granted_over(rules: &[AccessRule; 64], k: u8, users: u64) -> u64
     ensures { SetOf result (λ t. Some 64 (λ i. (t < 64) × HasT (get_or rules.now i no_rule) k users t)) }
 {
-    let mut set: u64 = 0;
-    let mut i: usize = 0;
-    while i < 64 {
-        set |= t_of(rules[i], k, users);
-        i += 1;
+    let mut set = 0;
+    for rule in rules {
+        set |= t_of(*rule, k, users);
     }
     set
 }

@@ -6,6 +6,16 @@ ghost use Rattle.reach.specs.Successors.{on_table, remove_from, made, put, taken
 
 use crate::{AccessRule, Appointment, Policy};
 
+// The value put at place i of a table; past its end nothing changes.
+fn store<T: Copy, const N: usize>(table: &mut [T; N], i: u8, value: T)
+    ensures { table.new ≡ set table.old i value }
+{
+    let n = i as usize;
+    if n < N {
+        table[n] = value;
+    }
+}
+
 // The object x taken out of g, in the table alone; past the table nothing changes.
 pub fn take_out(memberships: &mut [u64; 64], x: u8, g: u8)
     ensures { memberships.new ≡ (on_table x g ⇒ remove_from memberships.old x g ∥ memberships.old) }
@@ -19,9 +29,7 @@ pub fn take_out(memberships: &mut [u64; 64], x: u8, g: u8)
 pub fn dismiss(appointments: &mut [Appointment; 32], i: u8)
     ensures { appointments.new ≡ set appointments.old i no_appointment }
 {
-    if i < 32 {
-        appointments[i as usize] = Appointment::default();
-    }
+    store(appointments, i, Appointment::default());
 }
 
 impl Policy {
@@ -29,18 +37,12 @@ impl Policy {
     pub fn made(mut self, x: u8, sort: u8, g: u8) -> Policy
         ensures { result ≡ made self x sort g }
     {
-        if x < 64 {
-            if g < 64 {
-                let mut i: usize = 0;
-                while i < 64 {
-                    self.memberships[i] = self.memberships[i] & !(1u64 << x);
-                    i += 1;
-                }
-                let n = x as usize;
-                self.memberships[n] = 0;
-                self.memberships[n] = self.memberships[n] | (1u64 << g);
-                self.sorts[n] = sort;
+        if (x < 64) & (g < 64) {
+            for row in &mut self.memberships {
+                *row &= !(1u64 << x);
             }
+            self.memberships[x as usize] = 1u64 << g;
+            self.sorts[x as usize] = sort;
         }
         self
     }
@@ -64,17 +66,16 @@ impl Policy {
     }
 
     // The place i filled with an appointment.
+    #[tactic(auto, unfolding(crate::specs::Successors::appointed))]
     pub fn appointed(mut self, i: u8, w: Appointment) -> Policy
         ensures { result ≡ appointed self i w }
     {
-        let n = i as usize;
-        if n < 32 {
-            self.appointments[n] = w;
-        }
+        store(&mut self.appointments, i, w);
         self
     }
 
     // The appointment at place i taken away.
+    #[tactic(auto, unfolding(crate::specs::Successors::appointed))]
     pub fn dismissed(mut self, i: u8) -> Policy
         ensures { result ≡ dismissed self i }
     {
@@ -83,29 +84,26 @@ impl Policy {
     }
 
     // The place i filled with the rule of users, targets and operations.
+    #[tactic(auto, unfolding(crate::specs::Successors::ruled))]
     pub fn granted(mut self, i: u8, users: u8, targets: u8, operations: u8) -> Policy
         ensures { result ≡ granted self i users targets operations }
     {
-        let n = i as usize;
-        if n < 64 {
-            self.rules[n] = AccessRule {
-                used: true,
-                users,
-                targets,
-                operations,
-            };
-        }
+        let rule = AccessRule {
+            used: true,
+            users,
+            targets,
+            operations,
+        };
+        store(&mut self.rules, i, rule);
         self
     }
 
     // The rule at place i taken away.
+    #[tactic(auto, unfolding(crate::specs::Successors::ruled))]
     pub fn withdrawn(mut self, i: u8) -> Policy
         ensures { result ≡ withdrawn self i }
     {
-        let n = i as usize;
-        if n < 64 {
-            self.rules[n] = AccessRule::default();
-        }
+        store(&mut self.rules, i, AccessRule::default());
         self
     }
 }

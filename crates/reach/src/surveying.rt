@@ -25,13 +25,11 @@ fn half_of(sorts: &[u8; 64], from: usize) -> Half
     let mut groups: u32 = 0;
     let mut users: u32 = 0;
     let mut targets: u32 = 0;
-    let mut i: usize = 0;
-    while i < 32 {
+    for i in 0..32 {
         let sort = sorts[from + i];
         groups |= mark(sort == Sort::Group as u8, i);
         users |= mark(sort == Sort::User as u8, i);
         targets |= mark(sort == Sort::Target as u8, i);
-        i += 1;
     }
     Half {
         groups,

@@ -16,18 +16,12 @@ fn line<W: Write>(out: &mut W, p: Policy, u: u8, a: u8) -> io::Result<()> {
     end_of_some(out, set)
 }
 
-// The lines of u, by the first of the pair.
-fn lines_of<W: Write>(out: &mut W, p: Policy, u: u8) -> io::Result<()> {
-    for a in 0..NAMED {
-        line(out, p, u, a)?;
-    }
-    Ok(())
-}
-
-// The lines of each object that the script names.
+// The lines of each object that the script names, by the first of the pair.
 pub fn lines<W: Write>(out: &mut W, p: Policy) -> io::Result<()> {
     for u in 0..NAMED {
-        lines_of(out, p, u)?;
+        for a in 0..NAMED {
+            line(out, p, u, a)?;
+        }
     }
     Ok(())
 }

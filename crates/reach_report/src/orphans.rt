@@ -14,11 +14,9 @@ use std::io::Write;
 fn owned_by_any(p: Policy) -> u64
     ensures { SetOf result (λ x. Some 64 (λ u. Owns (view p) u x)) }
 {
-    let mut set: u64 = 0;
-    let mut u: u8 = 0;
-    while u < 64 {
+    let mut set = 0;
+    for u in 0..64 {
         set |= p.owned(u);
-        u += 1;
     }
     set
 }

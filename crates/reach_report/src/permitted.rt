@@ -8,13 +8,11 @@ use std::io::Write;
 
 // The target x, if it is in the set, with its place.
 fn item_at<W: Write>(out: &mut W, set: u64, x: u8, found: Option<u8>) -> io::Result<()> {
-    match found {
-        Some(i) => {
-            item(out, set, x, true)?;
-            place(out, i)
-        }
-        None => item(out, set, x, false),
+    item(out, set, x, found.is_some())?;
+    if let Some(i) = found {
+        place(out, i)?;
     }
+    Ok(())
 }
 
 // The targets on which u is permitted operation k; no line where there is none.
@@ -27,18 +25,12 @@ fn line<W: Write>(out: &mut W, p: Policy, u: u8, k: u8) -> io::Result<()> {
     end_of_some(out, set)
 }
 
-// The lines of u, by the operation. The first that is none, 8, is asked too.
-fn lines_of<W: Write>(out: &mut W, p: Policy, u: u8) -> io::Result<()> {
-    for k in 0..9 {
-        line(out, p, u, k)?;
-    }
-    Ok(())
-}
-
-// The lines of each object that the script names.
+// The lines of each object that the script names, by the operation. The first that is none, 8, is asked too.
 pub fn lines<W: Write>(out: &mut W, p: Policy) -> io::Result<()> {
     for u in 0..NAMED {
-        lines_of(out, p, u)?;
+        for k in 0..=8 {
+            line(out, p, u, k)?;
+        }
     }
     Ok(())
 }

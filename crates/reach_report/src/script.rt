@@ -4,20 +4,21 @@ ghost use Rattle.std.specs.Prelude.{◌≡◌};
 ghost use Rattle.reach.specs.Successors.{appointed};
 ghost use Rattle.reach_report.specs.Script.{changed, objects, circles, appointments, rules, empties, strays, edges, scripted};
 
-use reach::{Appointment, Policy};
+use reach::{Appointment, Policy, Post, Sort};
 
-const GROUP: u8 = 1;
+const GROUP: u8 = Sort::Group as u8;
 
-const USER: u8 = 2;
+const USER: u8 = Sort::User as u8;
 
-const TARGET: u8 = 3;
+const TARGET: u8 = Sort::Target as u8;
 
-const OWNER: u8 = 1;
+const OWNER: u8 = Post::Owner as u8;
 
-const MANAGER: u8 = 2;
+const MANAGER: u8 = Post::Manager as u8;
 
-const ADMINISTRATOR: u8 = 3;
+const ADMINISTRATOR: u8 = Post::Administrator as u8;
 
+// A number that is neither a sort nor a post.
 const UNKNOWN: u8 = 7;
 
 // The place i filled with an appointment, given by its parts.

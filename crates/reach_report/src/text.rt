@@ -36,11 +36,23 @@ pub fn item<W: Write>(out: &mut W, set: u64, x: u8, asked: bool) -> io::Result<(
     doubt(out, listed != asked)
 }
 
-// The head of a line that tells of n.
-pub fn head<W: Write>(out: &mut W, title: &[u8], n: u8) -> io::Result<()> {
+// A line that tells of n: the numbers of the set, each with a mark where the question about it alone was answered otherwise.
+pub fn line<W: Write, F: Fn(u8) -> bool>(
+    out: &mut W,
+    title: &[u8],
+    n: u8,
+    set: u64,
+    asked: F,
+) -> io::Result<()>
+    requires { F.IsAlwaysCallable asked }
+{
     words(out, title)?;
     number(out, n)?;
-    words(out, b":")
+    words(out, b":")?;
+    for x in 0..64 {
+        item(out, set, x, asked(x))?;
+    }
+    words(out, b"\n")
 }
 
 // The head of a line that tells of u and n, if the set has something to tell.

@@ -1,11 +1,9 @@
 use native.Mathlib.Omega.{arith}
-use mathlib.Core.Path.{◌≡◌, ◌∙◌}
+use mathlib.Core.Path.{◌≡◌}
 use Prim.Native.Nat.{◌<◌}
 use lib.Bits.{bit_or}
 use lib.Count.{count_trailing_zeros}
 use Rattle.reach.specs.Words.{bit}
-use Rattle.reach.specs.Tables.{view}
-use Rattle.reach.specs.Reach.{InUse}
 use Rattle.reach.specs.Asking.{reach_of}
 use Rattle.reach.proofs.Bits.{lowest_bit}
 use Rattle.reach.proofs.Testing.{decides_number, refuted}
@@ -14,34 +12,26 @@ use Rattle.reach.proofs.Reaching.{under_lower}
 use Rattle.reach.proofs.Chains.{in_use_below}
 use Rattle.reach.proofs.Gathering.{left_least}
 use Rattle.reach.proofs.Upward.{used_by, climb_start, climb_step, climb_less, climb_end}
-use Rattle.std.proofs.Common.{rules}
-use Rattle.reach.proofs.Objects.above.Goals.{Else-not-in_use, In-loop-left}
+use Rattle.reach.proofs.Objects.above.Goals.{In-loop-left}
 use Rattle.reach.proofs.Objects.above.Goals as goal
 
 -- The lowest number of what is left.
 lowest : (c : In-loop-left) → (count_trailing_zeros 64 c.loop-left.left < 64) × (bit c.loop-left.left (count_trailing_zeros 64 c.loop-left.left) ≡ 1)
 lowest c = lowest_bit 64 _ c.loop-left-test.true c.loop-left.invariant.left_word
 
--- x is in use, so it is on the table.
-used : (c : Else-not-in_use) → InUse (view (reach_of c.args.self.sorts.now c.args.self.memberships.now)) c.args.x
-used c = (used_by _ _ _ c.in_use.ensures).sound c.if-not-in_use.false
-
-low : (c : Else-not-in_use) → c.args.x < 64
-low c = in_use_below _ _ (used c)
-
 pub returns-then-not-in_use : goal.returns-then-not-in_use
 returns-then-not-in_use c = set_none (λ g u. refuted (used_by _ _ _ c.in_use.ensures) c.if-not-in_use.true (under_lower u))
 
 pub overflow_shl-found : goal.overflow_shl-found
-overflow_shl-found c = low (goal.at.overflow_shl-found c).Else-not-in_use
+overflow_shl-found c = in_use_below (reach_of c.args.self.sorts.now c.args.self.memberships.now) _ ((used_by _ _ _ c.in_use.ensures).sound c.if-not-in_use.false)
 
 pub bounds-memberships-n : goal.bounds-memberships-n
-bounds-memberships-n c = low (goal.at.bounds-memberships-n c).Else-not-in_use
+bounds-memberships-n c = in_use_below (reach_of c.args.self.sorts.now c.args.self.memberships.now) _ ((used_by _ _ _ c.in_use.ensures).sound c.if-not-in_use.false)
 
 pub loop-left-init : goal.loop-left-init
 loop-left-init c =
-    let e = (goal.at.loop-left-init c).Else-not-in_use in
-    climb_start _ (used e) (low e) (omega arith)
+    let used = (used_by _ _ _ c.in_use.ensures).sound c.if-not-in_use.false in
+    climb_start _ used (in_use_below _ _ used) (omega arith)
 
 pub overflow_cast-h : goal.overflow_cast-h
 overflow_cast-h c =

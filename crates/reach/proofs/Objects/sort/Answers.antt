@@ -1,5 +1,4 @@
 -- On the table the byte at the place of x, as it counts; past it none.
-use mathlib.Core.Path.{◌∙◌, sym}
 use borrow.Author.Tests.{lt-ltb, le-ltb}
 use Rattle.reach.proofs.Objects.sort.Goals as goal
 

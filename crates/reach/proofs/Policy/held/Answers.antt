@@ -10,9 +10,9 @@ returns c =
     let memberships = c.objects-objects.ensures.memberships in
     held_by _ _ _ _
     (user_by _ _ (rw sorts at c.is_user-user.ensures))
-    c.given_to-given.ensures.0
-    c.given_to-given.ensures.1
+    c.given_to-given.ensures.0.owner
+    c.given_to-given.ensures.0.manager
     (rw (sorts, memberships) at c.above-over_x.ensures)
     (rw (sorts, memberships) at c.above-over_y.ensures)
-    c.given_to-given.ensures.2
+    c.given_to-given.ensures.1
     (rw (sorts, memberships) at c.direct.ensures ∙ direct_by _ _ _)

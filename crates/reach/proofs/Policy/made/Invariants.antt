@@ -1,8 +1,7 @@
--- The loop takes x out of the first i rows, and leaves the other tables; then row x is emptied, and is the set with g.
+-- The loop takes x out of the first i rows; then row x is the set of g alone.
 use mathlib.Core.Path.{◌≡◌}
-use Prim.Native.Nat.{ℕ, ◌-◌, ◌*◌, ◌%◌, ◌^◌, ◌≤◌}
+use Prim.Native.Nat.{ℕ, ◌-◌, ◌*◌, ◌%◌, ◌^◌}
 use lib.Bits.{bit_and}
-use Rattle.reach.specs.Successors.{with_members}
 use Rattle.reach.proofs.Lists.{map_to}
 use Rattle.reach.proofs.Policy.made.Given as goal
 
@@ -10,8 +9,5 @@ use Rattle.reach.proofs.Policy.made.Given as goal
 abbrev pub masked : ℕ → ℕ → ℕ
 masked x w = bit_and w (2 ^ 64 - 1 - (1 * 2 ^ x) % 2 ^ 64)
 
-abbrev pub invariant-loop-i : goal.invariant-loop-i
-invariant-loop-i l = (l.i ≤ 64) × (l.self ≡ with_members l.initial.self (map_to (masked l.x) l.i l.initial.self.memberships))
-
-abbrev pub decreases-loop-i : goal.decreases-loop-i
-decreases-loop-i l = 64 - l.i
+abbrev pub invariant-loop-row : goal.invariant-loop-row
+invariant-loop-row l = l.row-items ≡ map_to (masked l.x) l.row-index l.fn.self.memberships

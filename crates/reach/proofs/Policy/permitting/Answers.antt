@@ -1,5 +1,5 @@
 -- The lowest rule with his groups and the groups of x, where there can be a permission at all.
-use mathlib.Core.Path.{◌≡◌, sym, ◌∙◌}
+use mathlib.Core.Path.{sym, ◌∙◌}
 use Rattle.reach.proofs.Deciding.{permitting_not}
 use Rattle.reach.proofs.Meeting.{askable_by, climbed, covering_is}
 use Rattle.reach.proofs.Policy.permitting.Goals as goal

@@ -10,12 +10,10 @@ use Rattle.reach.proofs.Marking.{Seen}
 use Rattle.reach.proofs.Posting.{Posted}
 use Rattle.reach.proofs.appointments.given_to.Given as goal
 
-abbrev pub invariant-loop-left : goal.invariant-loop-left
-invariant-loop-left l =
-    Marked (λ j. (get_or l.appointments j no_appointment).holder ≡ l.u) l.left
-    × SeenSet (Posted l.appointments owner l.u) l.left l.owner
-    × SeenSet (Posted l.appointments manager l.u) l.left l.manager
-    × Decides l.pair (Seen l.left (λ j. CoversPair (get_or l.appointments j no_appointment) l.u l.first l.second))
-
-abbrev pub decreases-loop-left : goal.decreases-loop-left
-decreases-loop-left l = l.left
+abbrev pub invariant-loop-i : goal.invariant-loop-i
+invariant-loop-i l =
+    let left = l.i-iterator.0 in
+    Marked (λ j. (get_or l.appointments j no_appointment).holder ≡ l.u) left
+    × SeenSet (Posted l.appointments owner l.u) left l.owner
+    × SeenSet (Posted l.appointments manager l.u) left l.manager
+    × Decides l.pair (Seen left (λ j. CoversPair (get_or l.appointments j no_appointment) l.u l.first l.second))

@@ -8,10 +8,8 @@ use Rattle.reach.specs.Asking.{OwnersA}
 use Rattle.reach.proofs.Marking.{Marked, SeenSet}
 use Rattle.reach.proofs.appointments.owners_from.Given as goal
 
-abbrev pub invariant-loop-left : goal.invariant-loop-left
-invariant-loop-left l =
-    Marked (λ j. (get_or l.appointments j no_appointment).kind ≡ owner) l.left
-    × SeenSet (λ j a. (a < 64) × OwnersA l.objects.sorts.now (get_or l.appointments j no_appointment) a) l.left l.set
-
-abbrev pub decreases-loop-left : goal.decreases-loop-left
-decreases-loop-left l = l.left
+abbrev pub invariant-loop-i : goal.invariant-loop-i
+invariant-loop-i l =
+    let left = l.i-iterator.0 in
+    Marked (λ j. (get_or l.appointments j no_appointment).kind ≡ owner) left
+    × SeenSet (λ j a. (a < 64) × OwnersA l.objects.sorts.now (get_or l.appointments j no_appointment) a) left l.set

@@ -4,10 +4,7 @@ use Rattle.reach.specs.Asking.{Looking}
 use Rattle.reach.proofs.Owning.{Rounding}
 use Rattle.reach.proofs.orphans.round.Given as goal
 
-abbrev pub invariant-loop-rest : goal.invariant-loop-rest
-invariant-loop-rest l =
-    Rounding l.memberships l.waiting l.groups l.left l.rest
+abbrev pub invariant-loop-h : goal.invariant-loop-h
+invariant-loop-h l =
+    Rounding l.memberships l.waiting l.groups l.left l.h-iterator.0
     × ((set : ℕ) → Looking l.sorts l.memberships set 64 l.had l.waiting → Looking l.sorts l.memberships set 64 l.groups l.left)
-
-abbrev pub decreases-loop-rest : goal.decreases-loop-rest
-decreases-loop-rest l = l.rest

@@ -6,12 +6,10 @@ use Rattle.reach.proofs.Settling.{Sweeping}
 use Rattle.reach.proofs.Settling.{Settling}
 use Rattle.reach.proofs.rounds.descend.Given as goal
 
-abbrev pub invariant-loop-left : goal.invariant-loop-left
-invariant-loop-left l =
-    Sweeping l.m.objects l.done l.found l.left × Whose l.memberships l.m (λ p. Settling p l.set l.done l.found l.left)
-
-abbrev pub decreases-loop-left : goal.decreases-loop-left
-decreases-loop-left l = l.left
+abbrev pub invariant-loop-h : goal.invariant-loop-h
+invariant-loop-h l =
+    let left = l.h-iterator.0 in
+    Sweeping l.m.objects l.done l.found left × Whose l.memberships l.m (λ p. Settling p l.set l.done l.found left)
 
 abbrev pub invariant-loop-found : goal.invariant-loop-found
 invariant-loop-found l =

@@ -13,4 +13,4 @@ pub returns : goal.returns
 unfolding covered_by
 returns c =
     let e : c.args.rule.used ≡ true = (not-false _ c.if-not-rule.false) in
-    rw (c.has-3.ensures, c.has-2.ensures, c.has.ensures, e)
+    rw (c.has-3.ensures, c.has-2.ensures, c.has.ensures, c.from.ensures, e)

@@ -1,16 +1,8 @@
-use native.Mathlib.Omega.{arith}
-use Rattle.reach.proofs.Unions.{union_none, union_add, union_end}
-use Rattle.std.proofs.Common.{rules}
+use Rattle.reach.proofs.Unions.{union_none, union_add}
 use Rattle.reach.proofs.ruling.granted_over.Goals as goal
 
-pub loop-i-init : goal.loop-i-init
-loop-i-init c = (search rules, union_none _)
+pub loop-rule-init : goal.loop-rule-init
+loop-rule-init c = union_none _
 
-pub bounds-rules-i : goal.bounds-rules-i
-bounds-rules-i c = c.loop-i-test.true
-
-pub loop-i-preserved : goal.loop-i-preserved
-loop-i-preserved c = (search rules, union_add _ c.loop-i.invariant.1 c.t_of-set.ensures)
-
-pub returns : goal.returns
-returns c = union_end _ 64 c.loop-i.invariant.1 (omega (arith, c.loop-i-test.false, c.loop-i.invariant.0))
+pub loop-rule-preserved : goal.loop-rule-preserved
+loop-rule-preserved c = union_add _ c.loop-rule.invariant c.t_of-set.ensures

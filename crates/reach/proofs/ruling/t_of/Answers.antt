@@ -13,7 +13,7 @@ returns-then-not-has c =
     (λ t h.
     refuted
     (decides_and _ _
-    (decides_at c.has.ensures (has_decides _ _))
+    (decides_at (rw c.from.ensures at c.has.ensures) (has_decides _ _))
     (decides_at c.has-2.ensures (has_decides _ _)))
     c.if-not-has.true
     (h.1.operation, h.1.in_u))
@@ -21,7 +21,7 @@ returns-then-not-has c =
 pub returns : goal.returns
 returns c =
     let both =
-    (decides_and _ _ (decides_at c.has.ensures (has_decides _ _)) (decides_at c.has-2.ensures (has_decides _ _))
+    (decides_and _ _ (decides_at (rw c.from.ensures at c.has.ensures) (has_decides _ _)) (decides_at c.has-2.ensures (has_decides _ _))
     ).sound
     c.if-not-has.false
     in
