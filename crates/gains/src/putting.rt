@@ -1,4 +1,5 @@
-// Checks 8 to 11 of a PUT, by what its object and its group are under: who may, what it gives its sender, and what it hands over.
+// Checks 8 to 11 of a PUT, by what its object and its group are under: who may, what it gives its sender, and what it hands over. That the
+// sets are what the two are under stays a premise: a ghost field keeps a fact of one proof, and an object may be under another by many chains.
 ghost use Rattle.std.specs.Prelude.{◌≡◌, ◌⊎◌, ℕ};
 ghost use Rattle.reach.specs.declared.Policy.{Policy};
 ghost use Rattle.reach.specs.Words.{Meet};
