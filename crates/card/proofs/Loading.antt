@@ -23,6 +23,7 @@ use Rattle.std.specs.Result.{result_unwrap_or}
 use Rattle.snapshot.specs.declared.CardError.{CardError}
 use Rattle.snapshot.specs.declared.CardError.TheVariants.{Damaged, Short}
 use Rattle.snapshot.specs.Answers.{code_of, policy_after, Reads}
+use Rattle.snapshot.proofs.Answering.{after_is}
 use Rattle.card.specs.declared.Told.{Told}
 use Rattle.card.specs.Program.{is_long, Shows, code_line, output_from, Loads}
 use Rattle.card.proofs.Showing.{long_input, not_long, shows_of_printed}
@@ -60,10 +61,6 @@ code_fits r = simp length-append (omega (arith, decimal_length 2 (code_of r) (lo
     low (Ok p) = omega arith
     low (Err Damaged) = omega arith
     low (Err Short) = omega arith
-
-after_is : (kept : Policy) (r : Result Policy CardError) → result_unwrap_or r kept ≡ policy_after kept r
-after_is kept (Ok p) = refl
-after_is kept (Err e) = refl
 
 -- Demand 3 from what was read, or from the founding.
 load_demand : (r : Result Policy CardError) → IfOk r (λ p. (list : List Bytes) → Demand3 p list) → (list : List Bytes)

@@ -18,8 +18,8 @@ use Rattle.list.specs.Filling.{over}
 use Rattle.list.proofs.Demanded.{third}
 use Rattle.soundness.specs.Soundness.{Sound}
 use Rattle.soundness.proofs.Keeping.{from_founding}
-use Rattle.std.specs.Prelude.{Option, Some, None, Result, Ok, Err}
-use Rattle.std.specs.Result.{result_ok, result_unwrap_or}
+use Rattle.std.specs.Prelude.{Option, Some, None, Result, Ok}
+use Rattle.std.specs.Result.{result_ok}
 use Rattle.snapshot.specs.declared.CardError.{CardError}
 use Rattle.snapshot.specs.Card.{file_of}
 use Rattle.snapshot.specs.Answers.{code_of, length_of, Writes}
@@ -31,10 +31,6 @@ use Rattle.card.proofs.Showing.{long_input, not_long, shows_of_printed}
 -- The line of a card has at most 8 bytes.
 line_fits : (n : ℕ) → n ≤ 25376 → length (saved_line 0 n) ≤ 8
 line_fits n h = simp length-append (omega (arith, decimal_length 0 0 (omega arith), decimal_length 4 n (omega arith)))
-
-pub length_is : (r : Result ℕ CardError) → result_unwrap_or r 0 ≡ length_of r
-length_is (Ok n) = refl
-length_is (Err e) = refl
 
 -- An input that is too long.
 pub saves_long : (input : Bytes) {card line line' : Bytes} {n : ℕ} → 65536 < length input → length line ≡ 16 → Wrote line 0 too_long line' n

@@ -15,6 +15,7 @@ use Rattle.std.specs.Prelude.{Result, Ok, Err, IfOk}
 use Rattle.std.specs.Result.{result_unwrap_or}
 use Rattle.snapshot.specs.declared.CardError.{CardError}
 use Rattle.snapshot.specs.Answers.{code_of, length_of, policy_after, Writes, Reads}
+use Rattle.snapshot.proofs.Answering.{length_is, after_is}
 use Rattle.export.specs.Picture.{policy_of, picture_of}
 use Rattle.export.specs.Carded.{CardWritten, CardRead}
 use Rattle.export.proofs.Storing.{sets_append, sets_front}
@@ -39,10 +40,6 @@ module _ (picture card code : Bytes) where
       (subst (λ (q : Policy). Writes q card card' r) e w)
       (rw coded (sets_front code (code_of r ∷ []) h))
       (told ∙ length_is r)
-    where
-      length_is : (r : Result ℕ CardError) → result_unwrap_or r 0 ≡ length_of r
-      length_is (Ok m) = refl
-      length_is (Err x) = refl
 
 -- ---- The reader
 
@@ -67,15 +64,11 @@ module _ (picture card answer : Bytes) where
       r
       reads
       demand
-      (rw (drawn, kept, after_is r, coded) (stored ∙ sets_front answer (picture_of after ++ (code_of r ∷ [])) room))
+      (rw (drawn, kept, after_is (policy_of picture) r, coded) (stored ∙ sets_front answer (picture_of after ++ (code_of r ∷ [])) room))
       refl
     where
       after : Policy
       after = policy_after (policy_of picture) r
-
-      after_is : (r : Result Policy CardError) → result_unwrap_or r (policy_of picture) ≡ policy_after (policy_of picture) r
-      after_is (Ok q) = refl
-      after_is (Err x) = refl
 
       whole : length (picture_of after) ≡ 960
       whole = picture_length after (after_sized (policy_sized picture) reads)

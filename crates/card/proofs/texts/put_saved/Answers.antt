@@ -1,5 +1,5 @@
 -- `put_saved` prints the code, a space, the length and a line feed: texts one after the other are their join.
-use Rattle.card.proofs.Saving.{length_is}
+use Rattle.snapshot.proofs.Answering.{length_is}
 use Rattle.text.proofs.Writing.{wrote_then, printed_of_wrote}
 use Rattle.card.proofs.texts.put_saved.Goals as goal
 
