@@ -1,9 +1,7 @@
--- The laws by which the judge's code follows the rules, each file under its subject: what the checks are lent, what the
--- sender may do, which checks can apply to which kinds, their order, a table worked out row by row, and that what is told
--- of own gain is one thing.
+-- The laws by which the judge's code follows the rules, each file under its subject: a stranger by the lent sorts, what
+-- TAKE and DISMISS leave, what is asked of two kinds, the order of the checks, and that what is told of own gain is one thing.
 pub mod Sorting
 pub mod Leaving
 pub mod ByKind
 pub mod Ordered
-pub mod Filling
 pub mod Telling

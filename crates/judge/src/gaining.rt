@@ -8,23 +8,16 @@ ghost use Rattle.judge.specs.Telling.{OwnGainOf};
 
 use crate::decide;
 use crate::doing::after;
-use crate::numbers::code_of;
 use gains::{Permission, gained};
 use reach::Policy;
-use rules::Request;
+use rules::{Refusal, Request};
+use std::array;
 
 // For each operation those of the objects on which u is permitted it.
 fn permissions(p: Policy, objects: u64, u: u8) -> [u64; 8]
     ensures { TableOf 8 result (λ k x. (bit objects x ≡ 1) × Permitted (view p) u k x) }
 {
-    let mut sets = [0u64; 8];
-    let mut k: u8 = 0;
-    while k < 8 {
-        let i = k as usize;
-        sets[i] = objects & p.permitted(u, k);
-        k += 1;
-    }
-    sets
+    array::from_fn(|k| objects & p.permitted(u, k as u8))
 }
 
 // The first permission, target by target and operation by operation, that a request would give a user, were it done: one that he has after
@@ -44,11 +37,8 @@ pub fn own_gain_of(p: Policy, bytes: &[u8]) -> Option<Permission>
     ensures { OwnGainOf p bytes.now result }
 {
     let decision = decide(p, bytes);
-    let verdict = decision.verdict;
-    if code_of(verdict) != 10 {
+    if decision.verdict != Err(Refusal::OwnGain) {
         return None;
     }
-    let u = decision.sender;
-    let q = decision.request;
-    permission_gained(p, u, q)
+    permission_gained(p, decision.sender, decision.request)
 }

@@ -3,12 +3,12 @@ use mathlib.Core.Path.{◌≡◌, refl, sym, ap, subst, ◌∙◌}
 use mathlib.Core.List.{List}
 use Prim.Native.Nat.{ℕ}
 use native.Mathlib.Omega.{arith}
+use Rattle.std.specs.Prelude.{Option, None, Err}
+use Rattle.std.proofs.Common.{rules}
 use Rattle.reach.specs.declared.Policy.{Policy}
-use Rattle.rules.specs.declared.Request.{Request}
-use Rattle.rules.specs.Judging.{Verdict}
-use Rattle.rules.specs.Records.{sender, request}
+use Rattle.rules.specs.declared.Refusal.TheVariants.{OwnGain}
 use Rattle.rules.specs.Judging.{code_of, judge}
-use Rattle.std.specs.Prelude.{Option, None}
+use Rattle.rules.proofs.Verdicts.{code_determines}
 use Rattle.gains.specs.declared.Permission.{Permission}
 use Rattle.gains.specs.Giving.{FirstPermission}
 use Rattle.judge.specs.declared.Decision.{Decision}
@@ -16,41 +16,28 @@ use Rattle.judge.specs.Answering.{decided}
 use Rattle.judge.specs.Telling.{OwnGainOf}
 use Rattle.judge.proofs.gaining.own_gain_of.Goals as goal
 
-module _ (p : Policy) (b : List ℕ) (v : Verdict) (code : ℕ) (judged : v ≡ (judge p b).verdict) (coded : code ≡ code_of v) where
-  answered : code ≡ code_of (judge p b).verdict
-  answered = coded ∙ ap code_of judged
-
-  untold : (code ≡ 10 → ⊥) → OwnGainOf p b None
-  untold other = record { refused = λ e. absurd (other (answered ∙ e)); otherwise = λ _. refl }
-
-  told : (u : ℕ) (q : Request) (g : Option Permission) → code ≡ 10 → u ≡ sender b → q ≡ request b → FirstPermission p u q g → OwnGainOf p b g
-  told u q g ten sent asked first =
-      record {
-        refused = λ _. subst (λ (q : Request). FirstPermission p (sender b) q g) asked
-            (subst (λ (u : ℕ). FirstPermission p u q g) sent first);
-        otherwise = λ other. absurd (other (sym answered ∙ ten));
-      }
-
 -- What is decided is the judge's.
 module _ (p : Policy) (b : List ℕ) {d : Decision} (e : d ≡ decided p b) where
-  decided-verdict : d.verdict ≡ (judge p b).verdict
-  decided-verdict = rw e
+  -- Another verdict than own gain has another code than 10.
+  untold : (d.verdict ≡ Err OwnGain → ⊥) → OwnGainOf p b None
+  untold other =
+      record {
+        refused = λ ten.
+            let code : code_of d.verdict ≡ 10 = rw e ten in
+            absurd (other (code_determines d.verdict (Err OwnGain) code (λ z. omega (arith, code, z))));
+        otherwise = λ _. refl;
+      }
 
-  decided-sender : d.sender ≡ sender b
-  decided-sender = rw e
+  told : (g : Option Permission) → d.verdict ≡ Err OwnGain → FirstPermission p d.sender d.request g → OwnGainOf p b g
+  told g own first =
+      let code : code_of (judge p b).verdict ≡ 10 = ap (λ (d : Decision). code_of d.verdict) (sym e) ∙ ap code_of own in
+      record {
+        refused = λ _. subst (λ (d : Decision). FirstPermission p d.sender d.request g) e first;
+        otherwise = λ other. absurd (other code);
+      }
 
-  decided-request : d.request ≡ request b
-  decided-request = rw e
-
-pub returns-then-code_of-ne10 : goal.returns-then-code_of-ne10
-returns-then-code_of-ne10 c =
-    untold _ _ _ _ (decided-verdict _ _ c.decide-decision.ensures) c.code_of.ensures (λ e. omega (arith, e, c.if-code_of-ne10.true))
+pub returns-then-ne : goal.returns-then-ne
+returns-then-ne c = untold _ _ c.decide-decision.ensures (search rules)
 
 pub returns : goal.returns
-returns c =
-    let decided = c.decide-decision.ensures in
-    told _ _ _ _ (decided-verdict _ _ decided) c.code_of.ensures _ _ _
-    (omega (arith, c.if-code_of-ne10.false))
-    (omega (arith, decided-sender _ _ decided))
-    (decided-request _ _ decided)
-    c.permission_gained.ensures
+returns c = told _ _ c.decide-decision.ensures _ (search rules) c.permission_gained.ensures

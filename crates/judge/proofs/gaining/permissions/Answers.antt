@@ -1,17 +1,28 @@
-use Prim.Native.Nat.{ℕ}
-use native.Mathlib.Omega.{arith}
-use lib.ListN.{length-replicate}
-use Rattle.reach.proofs.WordSets.{set_mask}
-use Rattle.judge.proofs.Filling.{filled_none, filled_next, filled_all}
-use Rattle.std.proofs.Common.{rules}
+-- Row by row it is what is permitted, of the objects.
+use Rattle.std.proofs.Common.{◌≡◌, ℕ, bit_and, rules}
+use Rattle.reach.specs.Words.{SetOf}
+use Rattle.reach.specs.Tables.{view}
+use Rattle.reach.specs.Privileges.{Permitted}
+use Rattle.reach.proofs.WordSets.{set_at, set_mask}
+use Rattle.gains.proofs.Calls.{each_made}
 use Rattle.judge.proofs.gaining.permissions.Goals as goal
 
-pub loop-k-init : goal.loop-k-init
-loop-k-init c = (search rules, filled_none (length-replicate {A = ℕ} 8 0))
-
-pub loop-k-preserved : goal.loop-k-preserved
-loop-k-preserved c =
-    (search rules, filled_next c.loop-k.invariant.1 (search rules) (set_mask _ c.permitted.ensures))
-
 pub returns : goal.returns
-returns c = filled_all c.loop-k.invariant.1 (omega (arith, c.loop-k-test.false))
+returns c =
+    let a = c.args in
+    record {
+      long = c.from_fn.ensures.items.long;
+      row = λ i l.
+          let made =
+          each_made _
+          (λ k r. (v : ℕ) × SetOf v (Permitted (view a.p) a.u k) × (r ≡ bit_and a.objects v))
+          _
+          (λ k r f' s. search rules)
+          _
+          8
+          c.from_fn.ensures.items
+          i
+          0
+          l in
+          set_at made.2 (set_mask _ made.1);
+    }
