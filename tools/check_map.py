@@ -45,10 +45,10 @@ def declared(path):
 
 
 def functions(path):
-    """Functions and types of a .rt file, each with its line; a function of `impl T` is `T::f`."""
+    """Functions and types of a .rt file, each with its line; a function of `impl T` or `impl A for T` is `T::f`."""
     names, owner = {}, ""
     for number, line in enumerate(path.read_text("utf-8").splitlines(), 1):
-        if found := re.match(r"impl(?:<[^>]*>)?\s+(\w+)", line):
+        if found := re.match(r"impl(?:<[^>]*>)?\s+(?:[\w:]+(?:<[^>]*>)?\s+for\s+)?(\w+)", line):
             owner = found[1] + "::"
         elif line.startswith("}"):
             owner = ""

@@ -1,5 +1,5 @@
 // Cards as files: what the system does with them is no part of any contract.
-ghost use Rattle.std.specs.Prelude.{◌≤◌, ◌++◌};
+ghost use Rattle.std.specs.Prelude.{◌≡◌, ◌≤◌, ◌++◌, length, IfSome, IfOk};
 ghost use Rattle.text.specs.Text.{Printed};
 ghost use Rattle.card.specs.Program.{IsPrefixLen, six_unknown};
 
@@ -13,32 +13,39 @@ use text::put_bytes;
 
 // Reads the file of that name until it ends or the buffer is full, and answers how many bytes it gave. If it can't be opened or read, a line
 // on standard error says why.
-pub fn fetch(rt: HostRuntime, name: &[u8], card: &mut [u8; 25377]) -> Option<usize> {
+pub fn fetch(rt: HostRuntime, name: &[u8], card: &mut [u8; 25377]) -> Option<usize>
+    ensures { IfSome result (λ n. n ≤ 25377) }
+{
     told(rt, name, read_file(rt, name, card))
 }
 
 // Reads standard input until it ends or the buffer is full. If it can't be read, a line on standard error says why: the first part of a list is
 // not the list.
-pub fn read_input(rt: HostRuntime, input: &mut [u8; 65537]) -> Option<usize> {
+pub fn read_input(rt: HostRuntime, input: &mut [u8; 65537]) -> Option<usize>
+    ensures { IfSome result (λ n. n ≤ 65537) }
+{
     told(rt, b"standard input", read_full(&mut rt.stdin(), input))
 }
 
 // Reads the file of that name until it ends or the buffer is full.
-fn read_file(rt: HostRuntime, name: &[u8], buffer: &mut [u8]) -> io::Result<usize> {
+fn read_file(rt: HostRuntime, name: &[u8], buffer: &mut [u8]) -> io::Result<usize>
+    ensures { IfOk result (λ n. n ≤ length buffer.new) }
+{
     let mut file = File::open(&rt, text_of(name)?)?;
     read_full(&mut file, buffer)
 }
 
 // A name as text: std names files so.
 fn text_of(name: &[u8]) -> io::Result<&str> {
-    match str::from_utf8(name) {
-        Ok(text) => Ok(text),
-        Err(_) => Err(io::Error::new(ErrorKind::InvalidFilename, "the name is not text in UTF-8")),
-    }
+    str::from_utf8(name).map_err(|_| {
+        io::Error::new(ErrorKind::InvalidFilename, "the name is not text in UTF-8")
+    })
 }
 
 // What was done, if it was: else a line on standard error says what could not be, and why.
-fn told<T>(rt: HostRuntime, name: &[u8], done: io::Result<T>) -> Option<T> {
+fn told<T>(rt: HostRuntime, name: &[u8], done: io::Result<T>) -> Option<T>
+    ensures { IfSome result (λ value. done ≡ Ok value) }
+{
     match done {
         Ok(value) => Some(value),
         Err(error) => {

@@ -15,11 +15,10 @@ use std::io;
 use std::io::Write;
 use texts::{load_and_judge, save_list};
 
-// What is saved: whether there is a card, its length, and that of the line to print.
+// What is saved: the length of the card, if there is one, and that of the line to print.
 #[derive(Clone, Copy)]
 pub struct Saved {
-    pub fits: bool,
-    pub length: usize,
+    pub card: Option<usize>,
     pub printed: usize,
 }
 
@@ -38,15 +37,13 @@ fn save(rt: HostRuntime, name: &[u8]) -> io::Result<()> {
     };
     let mut card = [0u8; 25376];
     let mut line = [0u8; 16];
-    let saved = save_list(&input, read, &mut card, &mut line);
-    let length = saved.length;
-    let printed = saved.printed;
-    if saved.fits {
+    let saved = save_list(&input[..read], &mut card, &mut line);
+    if let Some(length) = saved.card {
         if !replace(rt, name, &card[..length]) {
             return Ok(());
         }
     }
-    rt.stdout().write_all(&line[..printed])
+    rt.stdout().write_all(&line[..saved.printed])
 }
 
 // `card load NAME`. The card is read before standard input, and nothing is printed before both are.
@@ -69,19 +66,9 @@ fn load(rt: HostRuntime, name: &[u8]) -> io::Result<()> {
     };
     let mut head = [0u8; 4];
     let mut text = [0u8; 212992];
-    let told = load_and_judge(&card, count, &input, read, &mut head, &mut text);
-    let in_head = told.head;
-    let in_text = told.text;
-    rt.stdout().write_all(&head[..in_head])?;
-    rt.stdout().write_all(&text[..in_text])
-}
-
-// Whether the first word is the command.
-fn is_command(word: &[u8; 4], command: &[u8; 4]) -> bool {
-    (word[0] == command[0])
-        & (word[1] == command[1])
-        & (word[2] == command[2])
-        & (word[3] == command[3])
+    let told = load_and_judge(&card[..count], &input[..read], &mut head, &mut text);
+    rt.stdout().write_all(&head[..told.head])?;
+    rt.stdout().write_all(&text[..told.text])
 }
 
 // Says how the program is called.
@@ -98,18 +85,12 @@ fn usage(rt: HostRuntime) {
 fn word_at(rt: HostRuntime, i: usize, buffer: &mut [u8]) -> usize
     ensures { result ≤ length buffer.new }
 {
-    match rt.arg(i, buffer) {
-        Ok(letters) => letters,
-        Err(_) => 0,
-    }
+    rt.arg(i, buffer).unwrap_or(0)
 }
 
 // Whether there is such a word, of any length.
 fn has_word(rt: HostRuntime, i: usize) -> bool {
-    match rt.arg(i, &mut []) {
-        Err(FillError::NotPresent) => false,
-        _ => true,
-    }
+    !matches!(rt.arg(i, &mut []), Err(FillError::NotPresent))
 }
 
 // The words behind the program's own name: a command, and a name that leaves room for the end of the new file's name.
@@ -118,16 +99,16 @@ fn main(rt: HostRuntime) -> io::Result<()> {
     let letters = word_at(rt, 1, &mut word);
     let mut path = [0u8; 4088];
     let length = word_at(rt, 2, &mut path);
-    if has_word(rt, 3) | (letters != 4) | (length == 0) {
+    if has_word(rt, 3) || length == 0 {
         usage(rt);
         return Ok(());
     }
-    if is_command(&word, b"save") {
-        save(rt, &path[..length])
-    } else if is_command(&word, b"load") {
-        load(rt, &path[..length])
-    } else {
-        usage(rt);
-        Ok(())
+    match &word[..letters] {
+        b"save" => save(rt, &path[..length]),
+        b"load" => load(rt, &path[..length]),
+        _ => {
+            usage(rt);
+            Ok(())
+        }
     }
 }

@@ -11,10 +11,11 @@ use Rattle.reach.specs.declared.Policy.{Policy}
 use Rattle.reach.specs.Tables.{Sized}
 use Rattle.text.specs.Text.{Bytes}
 use Rattle.list.specs.Demand.{Demand3}
-use Rattle.snapshot.specs.declared.Status.TheVariants.{Done}
-use Rattle.snapshot.specs.declared.Written.{Written}
-use Rattle.snapshot.specs.declared.Loaded.{Loaded}
-use Rattle.snapshot.specs.Answers.{code_of, Writes, Reads}
+use Rattle.std.specs.Prelude.{Result, Ok, Err, IfOk}
+use Rattle.std.specs.Result.{result_unwrap_or}
+use Rattle.snapshot.specs.declared.CardError.{CardError}
+use Rattle.snapshot.specs.Answers.{code_of, length_of, policy_after, Writes, Reads}
+use Rattle.snapshot.proofs.Answering.{length_is, after_is}
 use Rattle.export.specs.Picture.{policy_of, picture_of}
 use Rattle.export.specs.Carded.{CardWritten, CardRead}
 use Rattle.export.proofs.Storing.{sets_append, sets_front}
@@ -29,22 +30,23 @@ module _ (picture card code : Bytes) where
   pub no_code_written : length picture ≡ 960 → length code < 1 → CardWritten picture card code card code 0
   no_code_written long h = CardWritten.misfit (rw (eq-eqb (length picture) 960 long, lt-leb 1 (length code) h)) refl refl refl
 
-  pub card_written : {card' : Bytes} (p : Policy) (r : Written) (c : ℕ) → length picture ≡ 960 → 1 ≤ length code → p ≡ policy_of picture
-      → Writes p card card' r → c ≡ code_of r.status → CardWritten picture card code card' (set code 0 c) r.length
-  card_written {card'} p r c long h e w coded =
+  pub card_written : {card' : Bytes} (p : Policy) (r : Result ℕ CardError) (c n : ℕ) → length picture ≡ 960 → 1 ≤ length code
+      → p ≡ policy_of picture → Writes p card card' r → c ≡ code_of r → n ≡ result_unwrap_or r 0
+      → CardWritten picture card code card' (set code 0 c) n
+  card_written {card'} p r c n long h e w coded told =
       CardWritten.answered
       (rw (eq-eqb (length picture) 960 long, le-leb 1 (length code) h))
       r
       (subst (λ (q : Policy). Writes q card card' r) e w)
-      (rw coded (sets_front code (code_of r.status ∷ []) h))
-      refl
+      (rw coded (sets_front code (code_of r ∷ []) h))
+      (told ∙ length_is r)
 
 -- ---- The reader
 
--- What is read is a policy with its sizes, or the one that the board had.
-read_sized : {kept : Policy} {card : Bytes} {r : Loaded} → Sized kept → Reads kept card r → Sized r.policy
-read_sized z (Reads.taken done file zeros same) = file.sized
-read_sized z (Reads.damaged none is) = subst (λ (r : Loaded). Sized r.policy) (sym is) z
+-- The policy after is one with its sizes: what was read, or the one that the board had.
+after_sized : {kept : Policy} {card : Bytes} {r : Result Policy CardError} → Sized kept → Reads card r → Sized (policy_after kept r)
+after_sized z (Reads.taken p is file zeros same) = rw is file.sized
+after_sized z (Reads.damaged none is) = rw is z
 
 module _ (picture card answer : Bytes) where
   pub no_picture_read : (length picture ≡ 960 → ⊥) → CardRead picture card answer answer 0
@@ -53,30 +55,29 @@ module _ (picture card answer : Bytes) where
   pub no_room_read : length picture ≡ 960 → length answer < 961 → CardRead picture card answer answer 0
   no_room_read long h = CardRead.misfit (rw (eq-eqb (length picture) 960 long, lt-leb 961 (length answer) h)) refl refl
 
-  pub card_read : {answer' : Bytes} (p : Policy) (r : Loaded) (c : ℕ) → length picture ≡ 960 → 961 ≤ length answer → p ≡ policy_of picture
-      → Reads p card r → (r.status ≡ Done → (list : List Bytes) → Demand3 r.policy list)
-      → answer' ≡ sets answer 0 (picture_of r.policy) → c ≡ code_of r.status → CardRead picture card answer (set answer' 960 c) 961
-  card_read p r c long h e reads demand drawn coded =
+  pub card_read : {answer' : Bytes} (r : Result Policy CardError) (p : Policy) (c : ℕ) → length picture ≡ 960 → 961 ≤ length answer
+      → Reads card r → IfOk r (λ q. (list : List Bytes) → Demand3 q list) → p ≡ result_unwrap_or r (policy_of picture)
+      → answer' ≡ sets answer 0 (picture_of p) → c ≡ code_of r → CardRead picture card answer (set answer' 960 c) 961
+  card_read r p c long h reads demand kept drawn coded =
       CardRead.answered
       (rw (eq-eqb (length picture) 960 long, le-leb 961 (length answer) h))
       r
-      told
+      reads
       demand
-      (rw (drawn, coded) (stored ∙ sets_front answer (picture_of r.policy ++ (code_of r.status ∷ [])) room))
+      (rw (drawn, kept, after_is (policy_of picture) r, coded) (stored ∙ sets_front answer (picture_of after ++ (code_of r ∷ [])) room))
       refl
     where
-      told : Reads (policy_of picture) card r
-      told = subst (λ (q : Policy). Reads q card r) e reads
+      after : Policy
+      after = policy_after (policy_of picture) r
 
-      whole : length (picture_of r.policy) ≡ 960
-      whole = picture_length r.policy (read_sized (policy_sized picture) told)
+      whole : length (picture_of after) ≡ 960
+      whole = picture_length after (after_sized (policy_sized picture) reads)
 
-      stored : set (sets answer 0 (picture_of r.policy)) 960 (code_of r.status)
-          ≡ sets answer 0 (picture_of r.policy ++ (code_of r.status ∷ []))
+      stored : set (sets answer 0 (picture_of after)) 960 (code_of r) ≡ sets answer 0 (picture_of after ++ (code_of r ∷ []))
       stored =
           sym
-          (sets_append answer 0 (picture_of r.policy) (code_of r.status ∷ [])
-          ∙ ap (λ (n : ℕ). set (sets answer 0 (picture_of r.policy)) n (code_of r.status)) (ap (λ (n : ℕ). 0 + n) whole))
+          (sets_append answer 0 (picture_of after) (code_of r ∷ [])
+          ∙ ap (λ (n : ℕ). set (sets answer 0 (picture_of after)) n (code_of r)) (ap (λ (n : ℕ). 0 + n) whole))
 
-      room : length (picture_of r.policy ++ (code_of r.status ∷ [])) ≤ length answer
-      room = omega (arith, whole, length-append (picture_of r.policy) (code_of r.status ∷ []))
+      room : length (picture_of after ++ (code_of r ∷ [])) ≤ length answer
+      room = omega (arith, whole, length-append (picture_of after) (code_of r ∷ []))

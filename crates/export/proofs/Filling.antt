@@ -1,6 +1,7 @@
 -- What `selkaum_run` leaves in the three buffers, from what the run of the list leaves in two of them: the list ran exactly if there was
 -- room for it, and the picture of the policy after it is 960 bytes.
-use mathlib.Core.Path.{◌≡◌, sym, ap, ◌∙◌}
+use Rattle.std.specs.Prelude.{Option, Some, None}
+use mathlib.Core.Path.{◌≡◌, refl, sym, ◌∙◌}
 use mathlib.Core.Bool.{Bool, true, false}
 use mathlib.Core.List.{List}
 use Prim.Native.Nat.{◌≤◌, ◌<◌}
@@ -13,7 +14,6 @@ use Rattle.reach.specs.Tests.{◌⇒◌∥◌}
 use Rattle.reach.specs.Tables.{initial}
 use Rattle.reach.proofs.Sizes.{sized_initial}
 use Rattle.text.specs.Text.{Bytes}
-use Rattle.list.specs.declared.Outcome.{Outcome}
 use Rattle.list.specs.Runs.{run}
 use Rattle.list.specs.Filling.{room, RunInto}
 use Rattle.list.proofs.Positions.{run_sized}
@@ -22,11 +22,14 @@ use Rattle.export.specs.Listed.{Listed}
 use Rattle.export.proofs.Storing.{sets_front}
 use Rattle.export.proofs.Picturing.{picture_length}
 
--- An outcome says whether there was room.
-ran_of_room : (fits : Bool) (p q : Policy) {r : Outcome}
-    → r ≡ (fits ⇒ record { ran = true; policy = p } ∥ record { ran = false; policy = q }) → fits ≡ r.ran
-ran_of_room true p q e = sym (ap (λ (o : Outcome). o.ran) e)
-ran_of_room false p q e = sym (ap (λ (o : Outcome). o.ran) e)
+-- There is a policy after the list exactly if there was room.
+no_room : (fits : Bool) (p : Policy) → None ≡ (fits ⇒ Some p ∥ None) → fits ≡ false
+no_room true p e = cc
+no_room false p e = refl
+
+had_room : (fits : Bool) (p : Policy) {q : Policy} → Some q ≡ (fits ⇒ Some p ∥ None) → (fits ≡ true) × (q ≡ p)
+had_room true p e = (refl, cc)
+had_room false p e = cc
 
 module _ (list : List Bytes) (codes cited policy : Bytes) where
   -- No room for a picture.
@@ -35,18 +38,15 @@ module _ (list : List Bytes) (codes cited policy : Bytes) where
       let short = lt-leb 960 (length policy) h in
       record { codes_written = rw short; cited_written = rw short; policy_written = rw short; count = rw short }
 
-  module _ {codes' cited' : Bytes} (r : Outcome) (h : 960 ≤ length policy) (s : RunInto initial list codes cited codes' cited' r) where
-    -- There is room for a picture; and for the answers if the list ran.
+  module _ {codes' cited' : Bytes} (h : 960 ≤ length policy) where
     long : leb 960 (length policy) ≡ true
     long = le-leb 960 (length policy) h
 
-    roomy : room list codes cited ≡ r.ran
-    roomy = ran_of_room (room list codes cited) (run initial list) initial s.outcome
-
     -- No room for the codes, or for the cited rules.
-    pub not_run : r.ran ≡ false → Listed list codes cited policy codes' cited' policy 0
-    not_run e =
-        let none : room list codes cited ≡ false = roomy ∙ e in
+    pub not_run : {r : Option Policy} → r ≡ None → RunInto initial list codes cited codes' cited' r
+        → Listed list codes cited policy codes' cited' policy 0
+    not_run e s =
+        let none : room list codes cited ≡ false = no_room _ _ (sym e ∙ s.outcome) in
         record {
           codes_written = rw long s.codes_written;
           cited_written = rw long s.cited_written;
@@ -55,11 +55,13 @@ module _ (list : List Bytes) (codes cited policy : Bytes) where
         }
 
     -- Room for all.
-    pub has_run : {policy' : Bytes} → r.ran ≡ true → policy' ≡ sets policy 0 (picture_of r.policy)
+    pub has_run : {policy' : Bytes} {q : Policy} {r : Option Policy} → r ≡ Some q → RunInto initial list codes cited codes' cited' r
+        → policy' ≡ sets policy 0 (picture_of q)
         → Listed list codes cited policy codes' cited' policy' 960
-    has_run e d =
-        let all : room list codes cited ≡ true = roomy ∙ e in
-        let last : r.policy ≡ run initial list = ap (λ (o : Outcome). o.policy) (rw all at s.outcome) in
+    has_run {q = q} e s d =
+        let ran = had_room (room list codes cited) (run initial list) (sym e ∙ s.outcome) in
+        let all : room list codes cited ≡ true = ran.0 in
+        let last : q ≡ run initial list = ran.1 in
         let whole : length (picture_of (run initial list)) ≡ 960 =
         picture_length (run initial list) (run_sized initial list sized_initial) in
         record {

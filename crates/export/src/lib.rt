@@ -31,7 +31,7 @@ pub use queues::{
     selkaum_queue_join, selkaum_queue_leave, selkaum_queue_start, selkaum_queue_tick,
 };
 use reading::policy_of;
-use snapshot::{read_card, status_code, write_card};
+use snapshot::{card_code, read_card, write_card};
 
 // The lines for the records of an input of any length into out, as the program prints them for one that is not too long. A buffer that is
 // too small gets as much of the text as it has room for. The result counts the bytes written. Of the records demand 3 holds, whole.
@@ -92,11 +92,9 @@ pub extern "C" fn selkaum_run(
     if policy.len() < 960 {
         return 0;
     }
-    let outcome = list::run_list(bytes, ends, codes, cited);
-    if !outcome.ran {
+    let Some(after) = list::run_list(bytes, ends, codes, cited) else {
         return 0;
-    }
-    let after = outcome.policy;
+    };
     put_policy(policy, after);
     960
 }
@@ -138,9 +136,8 @@ pub extern "C" fn selkaum_write_card(policy: &[u8], card: &mut [u8], code: &mut 
         return 0;
     }
     let written = write_card(policy_of(policy), card);
-    let status = written.status;
-    code[0] = status_code(status);
-    written.length
+    code[0] = card_code(&written);
+    written.unwrap_or(0)
 }
 
 // Reads a card, where the board has the policy of a picture: the picture of the policy after and the code, 961 bytes, go into the answer, and
@@ -156,10 +153,9 @@ pub extern "C" fn selkaum_read_card(policy: &[u8], card: &[u8], answer: &mut [u8
     if answer.len() < 961 {
         return 0;
     }
-    let loaded = read_card(policy_of(policy), card);
-    let status = loaded.status;
-    let after = loaded.policy;
-    put_policy(answer, after);
-    answer[960] = status_code(status);
+    let read = read_card(card);
+    let code = card_code(&read);
+    put_policy(answer, read.unwrap_or(policy_of(policy)));
+    answer[960] = code;
     961
 }

@@ -2,4 +2,4 @@
 pub mod Tried
 pub mod Steps
 pub mod Records
-pub mod Counting
+pub mod Giving

@@ -6,8 +6,8 @@ use mathlib.Core.List.{List, [], ◌∷◌}
 use Prim.Native.Nat.{ℕ, zero, suc, ◌+◌, ◌*◌, ◌≤◌}
 use native.Mathlib.Omega.{arith}
 use lib.ListN.{length}
-use Rattle.frame.specs.declared.Step.{Step}
-use Rattle.frame.specs.declared.Step.TheVariants.{Record, Torn, End}
+use Rattle.frame.specs.Reading.{Step}
+use Rattle.frame.specs.Reading.{Record, Torn, End}
 use Rattle.frame.specs.Reading.{step_at, record_bytes, records_by, records_within, records_from}
 use Rattle.frame.specs.Reading.{torn_by, torn_within, torn_from}
 use Rattle.frame.proofs.Steps.{Found, step_record, step_torn, end_step}

@@ -9,12 +9,12 @@ use lib.Dec.{ltb, leb}
 use lib.ListN.{length, drop, length-drop}
 use lib.Seq.{length-take-le, get_or-take}
 use borrow.Author.Tests.{ltb-false, leb-true, leb-false, le-leb}
-use Rattle.frame.specs.declared.Step.{Step}
-use Rattle.frame.specs.declared.Step.TheVariants.{Record, Torn, End}
+use Rattle.frame.specs.Reading.{Step}
+use Rattle.frame.specs.Reading.{Record, Torn, End}
 use Rattle.frame.specs.Fields.{little_endian, length_field}
 use Rattle.frame.specs.Reading.{torn, step_at, record_bytes}
 
--- Two steps of different names are not equal: congruence gives 0 ≡ 1.
+-- Two constructors of different names are not equal: congruence gives 0 ≡ 1.
 pub clash {ℓ} : {A : Type ℓ} → ◌≡◌ {A = ℕ} 0 1 → A
 clash e = absurd (omega arith)
 
@@ -30,9 +30,9 @@ whole_of_untorn left e =
   where
     go : (p q r : Bool) → ltb (length_field left) 4 ≡ q → ltb (length left) (length_field left) ≡ r
         → (p || q || r) ≡ false → Whole left
-    go true q r hq hr h = clash cc
-    go false true r hq hr h = clash cc
-    go false false true hq hr h = clash cc
+    go true q r hq hr h = cc
+    go false true r hq hr h = cc
+    go false false true hq hr h = cc
     go false false false hq hr h = record { long = ltb-false _ _ hq; within = ltb-false _ _ hr }
 
 -- What is known of a record that is found at a position of b.
@@ -55,8 +55,8 @@ module _ (b : List ℕ) (at : ℕ) where
     where
       go : (p q : Bool) → leb (length b) at ≡ p → torn (drop at b) ≡ q
           → step_of p q ≡ Record start len next → Found b at start len next
-      go true q hp hq h = clash cc
-      go false true hp hq h = clash cc
+      go true q hp hq h = cc
+      go false true hp hq h = cc
       go false false hp hq h =
           let a : start ≡ at = cc in
           let l : len ≡ length_field (drop at b) = cc in
@@ -79,7 +79,7 @@ module _ (b : List ℕ) (at : ℕ) where
   step_torn e = go (leb (length b) at) refl e
     where
       go : (p : Bool) → leb (length b) at ≡ p → step_of p (torn (drop at b)) ≡ Torn → at < length b
-      go true hp h = clash cc
+      go true hp h = cc
       go false hp h = leb-false _ _ hp
 
   -- The end stands nowhere short of the end of the bytes.
@@ -89,8 +89,8 @@ module _ (b : List ℕ) (at : ℕ) where
     where
       go : (p q : Bool) → leb (length b) at ≡ p → step_of p q ≡ End → length b ≤ at
       go true q hp h = leb-true _ _ hp
-      go false true hp h = clash cc
-      go false false hp h = clash cc
+      go false true hp h = cc
+      go false false hp h = cc
 
   -- At the end of the bytes and past it stands the end.
   pub end_step : length b ≤ at → step_at b at ≡ End

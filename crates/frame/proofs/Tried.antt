@@ -5,8 +5,8 @@ use mathlib.Core.Bool.{Bool, true, false}
 use mathlib.Core.List.{List, [], ◌∷◌, ◌++◌, map}
 use Prim.Native.Nat.{ℕ}
 use lib.ListN.{replicate}
-use Rattle.frame.specs.declared.Step.{Step}
-use Rattle.frame.specs.declared.Step.TheVariants.{Record, Torn, End}
+use Rattle.frame.specs.Reading.{Step}
+use Rattle.frame.specs.Reading.{Record, Torn, End}
 use Rattle.frame.specs.Fields.{length_field, kind_field}
 use Rattle.frame.specs.Reading.{step_at, records_within, records_from, torn_within, torn_from, place_after}
 

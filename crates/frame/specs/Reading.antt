@@ -1,11 +1,19 @@
 -- What a reader over lent bytes finds at each position: a record, a torn place, or the end; and all that it finds from
 -- a position on. Every position has an answer: past the end stands what stands at the end.
-use Rattle.std.specs.Prelude.{Bool, true, false, cond, ◌||◌, List, [], ◌∷◌, ℕ, zero, suc, ◌+◌, ltb, leb, length, take, drop}
+use Rattle.std.specs.Prelude.{◌≡◌, Bool, true, false, cond, ◌||◌, List, [], ◌∷◌, ◌++◌, map, ℕ, zero, suc, ◌+◌, ltb, leb, length, take, drop}
+use Rattle.std.specs.Prelude.{Option, Some, None, Result, Ok, Err, option_map}
 use Rattle.std.specs.Borrow.{Bor}
-use Rattle.frame.specs.declared.Step.{Step}
-use Rattle.frame.specs.declared.Step.TheVariants.{Record, Torn, End}
+use Rattle.std.specs.Iterator.{YieldsFirstBy}
+use Rattle.frame.specs.declared.Torn as mark
 use Rattle.frame.specs.declared.Reader.{Reader}
 use Rattle.frame.specs.Fields.{length_field}
+
+-- What stands at a position: a whole record, that is where it starts, its length and the place after it; a torn place; or
+-- the end.
+pub data Step : Type 0 where
+  Record : (start len next : ℕ) → Step
+  Torn : Step
+  End : Step
 
 -- [01:runner.7] "Fewer than 4 bytes left over, a length field below 4, or one running past the end, is torn": said of the
 -- bytes left over.
@@ -60,11 +68,46 @@ steps_of b = length (records_from b 0) + cond (torn_from b 0) 1 0
 abbrev pub reader_at : Bor (List ℕ) → ℕ → Reader
 reader_at bytes at = record { bytes = bytes; at = at }
 
--- Where reading goes on: after a record at its next place. A torn place is not left, and is torn again; nor is the end.
+-- What a reader gives, read as values: the bytes of a record, or the mark of a torn place.
+abbrev pub Item : Type 0
+Item = Result (List ℕ) mark.Torn
+
+abbrev pub item : Result (Bor (List ℕ)) mark.Torn → Item
+item (Ok bytes) = Ok bytes.now
+item (Err m) = Err m
+
+-- What a reader at a position has left to give: the records from there on, and behind them, if the bytes are torn there, the mark.
+abbrev pub marked : Bool → List Item
+marked true = Err (record {}) ∷ []
+marked false = []
+
+unfoldable pub items_from : List ℕ → ℕ → List Item
+items_from b at = map (λ (r : List ℕ). Ok r) (records_from b at) ++ marked (torn_from b at)
+
+abbrev pub left : Reader → List Item
+left r = items_from r.bytes.now r.at
+
+-- What it gives at a step: nothing at the end.
+abbrev pub found : List ℕ → Step → Option Item
+found b (Record start len next) = Some (Ok (record_bytes b start len))
+found b Torn = Some (Err (record {}))
+found b End = None
+
+-- Where reading goes on: after a record at its next place. A torn place is not left; nor is the end.
 abbrev pub place_after : ℕ → Step → ℕ
 place_after at (Record start len next) = next
 place_after at Torn = at
 place_after at End = at
 
-abbrev pub reader_after : Reader → Reader
-reader_after r = reader_at r.bytes (place_after r.at (step_at r.bytes.now r.at))
+-- What is still read: from a torn place on nothing.
+abbrev pub bytes_after : List ℕ → ℕ → Step → List ℕ
+bytes_after b at (Record start len next) = b
+bytes_after b at Torn = take at b
+bytes_after b at End = b
+
+-- A reader gives the first of what it had left, which is what stands at its position, and goes on.
+pub record Goes (r : Reader) (given : Option (Result (Bor (List ℕ)) mark.Torn)) (r' : Reader) : Type 0 where
+  pub first : YieldsFirstBy item left r given r'
+  pub gives : option_map item given ≡ found r.bytes.now (step_at r.bytes.now r.at)
+  pub place : r'.at ≡ place_after r.at (step_at r.bytes.now r.at)
+  pub bytes : r'.bytes.now ≡ bytes_after r.bytes.now r.at (step_at r.bytes.now r.at)

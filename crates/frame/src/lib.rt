@@ -7,22 +7,24 @@ mod reading;
 ghost use Rattle.std.specs.Prelude.{◌≡◌};
 ghost use Rattle.frame.specs.Fields.{byte, little_endian, length_field, kind_field};
 
-pub use reading::{count_steps, read_after, read_at};
+pub use reading::count_steps;
+use std::error::Error;
+use std::fmt;
 
-// What stands at a position of bytes: a whole record, with the place after it; a torn place; or the end.
-#[derive(Clone, Copy)]
-pub enum Step {
-    Record {
-        start: usize,
-        length: usize,
-        next: usize,
-    },
-    Torn,
-    End,
+// What is torn: bytes left over that begin with no whole record.
+#[derive(Clone, Copy, Debug, PartialEq, Eq)]
+pub struct Torn;
+
+impl fmt::Display for Torn {
+    fn fmt<W: fmt::Write>(&self, f: &mut fmt::Formatter<W>) -> fmt::Result {
+        f.write_str("torn: no whole record")
+    }
 }
 
-// Lent bytes and a position in them.
-#[derive(Clone, Copy)]
+impl Error for Torn {}
+
+// Lent bytes and a position in them. It gives record after record, and a torn place once, as the last.
+#[derive(Clone, Drop)]
 pub struct Reader<'a> {
     pub bytes: &'a [u8],
     pub at: usize,
@@ -32,17 +34,14 @@ pub struct Reader<'a> {
 pub fn byte(b: &[u8], i: usize) -> u8
     ensures { result ≡ byte b.now i }
 {
-    if i < b.len() {
-        return b[i];
-    }
-    0
+    b.get(i).copied().unwrap_or(0)
 }
 
 // The number of two bytes, little-endian.
 pub fn little_endian(low: u8, high: u8) -> usize
     ensures { result ≡ little_endian low high }
 {
-    low as usize + 256 * (high as usize)
+    usize::from(u16::from_le_bytes([low, high]))
 }
 
 // The length that the record gives itself.

@@ -10,7 +10,7 @@ use Rattle.reach.specs.declared.Policy.{Policy}
 use Rattle.reach.specs.Tests.{◌⇒◌∥◌}
 use Rattle.reach.specs.Tables.{initial}
 use Rattle.frame.specs.Reading.{records_from, torn_from, steps_of}
-use Rattle.frame.proofs.Counting.{steps_few}
+use Rattle.frame.proofs.Giving.{steps_few}
 use Rattle.rules.specs.Judging.{answers}
 use Rattle.text.specs.Text.{Bytes, torn_place, feeds, Printed}
 use Rattle.text.proofs.Lengths.{Bounded, bounded_torn, lines_length_any}

@@ -1,19 +1,19 @@
--- What the loop of `report_from` keeps: the lines so far stand in the buffer, and those to come are of the answers from the current policy and
--- position on. Each record moves one answer over; a torn place is the last; at the end none is to come.
+-- What the loop of `report_from` keeps: the lines so far stand in the buffer, and those to come are of the answers to what the reader has
+-- left, from the current policy on. Each record, and a torn place, moves one answer over; at the end none is to come.
+use Rattle.std.specs.Prelude.{Ok, Err}
 use mathlib.Core.Path.{◌≡◌, refl, sym, ap, subst, ◌∙◌}
+use mathlib.Core.Bool.{Bool, false}
 use mathlib.Core.List.{List, [], ◌∷◌, ◌++◌, append_assoc, append-nil}
-use Prim.Native.Nat.{ℕ, ◌+◌, ◌-◌, ◌≤◌, ◌<◌, zero-le}
-use native.Mathlib.Omega.{arith}
-use lib.ListN.{length, take, drop, length-append}
+use Prim.Native.Nat.{ℕ, ◌+◌, ◌≤◌, ◌<◌}
+use lib.ListN.{length, length-append}
 use borrow.Author.Tests.{lt-ltb, le-ltb}
 use Rattle.reach.specs.declared.Policy.{Policy}
+use Rattle.reach.specs.Tests.{◌⇒◌∥◌}
 use Rattle.reach.specs.Tables.{initial}
-use Rattle.frame.specs.declared.Step.TheVariants.{Record, Torn, End}
-use Rattle.frame.specs.Reading.{step_at, record_bytes, records_from}
-use Rattle.frame.proofs.Steps.{Found, step_record}
-use Rattle.frame.proofs.Records.{records_of_record, torn_of_record, records_of_torn, torn_of_torn, records_of_end, torn_of_end}
-use Rattle.rules.specs.declared.Answer.{Answer}
-use Rattle.rules.specs.Judging.{code_of, cited_of, judge, numbers_of}
+use Rattle.frame.specs.declared.Torn as mark
+use Rattle.frame.specs.Reading.{records_from, torn_from, Item, items_from}
+use Rattle.frame.proofs.Giving.{Coming, coming_from, coming_record, coming_torn, coming_none}
+use Rattle.rules.specs.Judging.{judge, numbers_of, answers}
 use Rattle.rules.proofs.Table.{answers_none, answers_next}
 use Rattle.text.specs.Text.{Bytes, line, lines, torn_place, Wrote, Printed}
 use Rattle.list.specs.declared.Reported.{Reported}
@@ -23,47 +23,44 @@ use Rattle.list.specs.Filling.{ReportInto}
 use Rattle.text.proofs.Writing.{wrote_none, wrote_as, printed_of_wrote}
 use Rattle.text.proofs.Printing.{lines_none, wrote_next_line}
 
--- ---- The answers from a position on go by the step there
+-- The answers that are to come: those to records, and behind them, if the bytes are torn there, that of the torn place.
+abbrev pub answers_of : Policy → List Bytes → Bool → List (ℕ × ℕ)
+answers_of p records torn = answers p records ++ (torn ⇒ torn_place ∷ [] ∥ [])
 
-module _ (p : Policy) (b : Bytes) (at : ℕ) where
-  pub answers_of_record : (start len next : ℕ) → step_at b at ≡ Record start len next
-      → answers_from p b at
-      ≡ numbers_of (judge p (record_bytes b start len)).verdict ∷ answers_from (judge p (record_bytes b start len)).policy b next
-  unfolding answers_from
-  answers_of_record start len next e = rw (records_of_record b at start len next e, torn_of_record b at start len next e, answers_next)
+-- They go by what comes first.
+answers_first : (p : Policy) {records others : List Bytes} {r : Bytes} (torn : Bool) → records ≡ r ∷ others
+    → answers_of p records torn ≡ numbers_of (judge p r).verdict ∷ answers_of (judge p r).policy others torn
+answers_first p torn e = rw (e, answers_next)
 
-  pub answers_of_torn : step_at b at ≡ Torn → answers_from p b at ≡ torn_place ∷ []
-  unfolding answers_from
-  answers_of_torn e = rw (records_of_torn b at e, torn_of_torn b at e, answers_none)
-
-  pub answers_of_end : step_at b at ≡ End → answers_from p b at ≡ []
-  unfolding answers_from
-  answers_of_end e = rw (records_of_end b at e, torn_of_end b at e, answers_none)
-
--- ---- The loop
+answers_last : (p : Policy) {records : List Bytes} (torn : Bool) → records ≡ []
+    → answers_of p records torn ≡ (torn ⇒ torn_place ∷ [] ∥ [])
+answers_last p torn e = rw (e, answers_none)
 
 module _ (first : Policy) (b out₀ : Bytes) where
-  pub record Reporting (out : Bytes) (p : Policy) (at index n : ℕ) : Type 0 where
+  pub record Reporting (out : Bytes) (p : Policy) (items : List Item) (index n : ℕ) : Type 0 where
+    pub records : List Bytes
+    pub torn : Bool
+    pub coming : Coming items records torn
     pub so_far : List (ℕ × ℕ)
     pub count : length so_far ≡ index
     pub wrote : Wrote out₀ 0 (lines 0 so_far) out n
-    pub to_come : so_far ++ answers_from p b at ≡ answers_from first b 0
-    pub policy_to_come : run p (records_from b at) ≡ run first (records_from b 0)
-    pub index_low : index ≤ at
-    pub within : at ≤ length b
+    pub to_come : so_far ++ answers_of p records torn ≡ answers_from first b 0
+    pub policy_to_come : run p records ≡ run first (records_from b 0)
 
-  pub reporting_start : {index : ℕ} → index ≡ 0 → Reporting out₀ first 0 index 0
-  reporting_start e = record {
+  pub reporting_start : {items : List Item} {index : ℕ} → items ≡ items_from b 0 → index ≡ 0 → Reporting out₀ first items index 0
+  unfolding answers_from
+  reporting_start e f = record {
+    records = records_from b 0;
+    torn = torn_from b 0;
+    coming = rw e (coming_from b 0);
     so_far = [];
-    count = sym e;
+    count = sym f;
     wrote = wrote_as (sym (lines_none 0)) (wrote_none out₀ 0);
     to_come = refl;
     policy_to_come = refl;
-    index_low = omega (arith, e);
-    within = zero-le;
   }
 
-  module _ {out : Bytes} {p : Policy} {at index n : ℕ} (s : Reporting out p at index n) where
+  module _ {out : Bytes} {p : Policy} {items : List Item} {index n : ℕ} (s : Reporting out p items index n) where
     -- The next line, of any answer, follows those so far.
     next_line : {out' : Bytes} {r : ℕ} (code cited : ℕ) → Wrote out n (line index code cited) out' r
         → Wrote out₀ 0 (lines 0 (s.so_far ++ ((code, cited) ∷ []))) out' r
@@ -71,58 +68,60 @@ module _ (first : Policy) (b out₀ : Bytes) where
         wrote_next_line s.so_far code cited s.wrote
         (subst (λ (k : ℕ). Wrote out n (line k code cited) out' r) (sym s.count) w)
 
-    -- All that is written is the text, once no answer is to come.
-    whole : {out' : Bytes} {r : ℕ} (l : List (ℕ × ℕ)) → l ≡ answers_from first b 0 → Wrote out₀ 0 (lines 0 l) out' r
-        → records_from b at ≡ [] → ReportInto first b out₀ out' (record { written = r; policy = p })
+    more : {index' : ℕ} (a : ℕ × ℕ) → index' ≡ index + 1 → length (s.so_far ++ (a ∷ [])) ≡ index'
+    more a e = simp (length-append, s.count, e)
+
+    module _ {out' : Bytes} {items' : List Item} {index' r : ℕ} (next : index' ≡ index + 1) where
+      -- A record is answered, and the next one is judged on the policy of the answer.
+      pub reporting_record : {p' : Policy} {a : ℕ × ℕ} {bytes : Bytes} → items ≡ Ok bytes ∷ items'
+          → a ≡ numbers_of (judge p bytes).verdict → p' ≡ (judge p bytes).policy
+          → Wrote out n (line index a.0 a.1) out' r → Reporting out' p' items' index' r
+      unfolding run
+      reporting_record {p'} {a} {bytes} e f g w =
+          let taken = coming_record s.coming e in
+          let told : answers_of p s.records s.torn ≡ a ∷ answers_of p' taken.others s.torn =
+          rw (f, g) (answers_first p s.torn taken.is_first) in
+          record {
+            records = taken.others;
+            torn = s.torn;
+            coming = taken.coming;
+            so_far = s.so_far ++ (a ∷ []);
+            count = more a next;
+            wrote = next_line a.0 a.1 w;
+            to_come = rw append_assoc (ap (λ (l : List (ℕ × ℕ)). s.so_far ++ l) (sym told) ∙ s.to_come);
+            policy_to_come = rw g (ap (run p) (sym taken.is_first) ∙ s.policy_to_come);
+          }
+
+      -- A torn place has its line, and nothing comes behind it.
+      pub reporting_torn : {m : mark.Torn} → items ≡ Err m ∷ items'
+          → Wrote out n (line index 1 255) out' r → Reporting out' p items' index' r
+      reporting_torn e w =
+          let last = coming_torn s.coming e in
+          let told : answers_of p s.records s.torn ≡ torn_place ∷ answers_of p [] false =
+          answers_last p s.torn last.none ∙ rw (last.is_torn, answers_none p) in
+          record {
+            records = [];
+            torn = false;
+            coming = last.coming;
+            so_far = s.so_far ++ (torn_place ∷ []);
+            count = more torn_place next;
+            wrote = next_line 1 255 w;
+            to_come = rw append_assoc (ap (λ (l : List (ℕ × ℕ)). s.so_far ++ l) (sym told) ∙ s.to_come);
+            policy_to_come = ap (run p) (sym last.none) ∙ s.policy_to_come;
+          }
+
+    -- All that is written is the text, once nothing is to come.
+    pub reporting_end : items ≡ [] → ReportInto first b out₀ out (record { written = n; policy = p })
     unfolding run
-    whole l e w none = record {
-      text = printed_of_wrote (wrote_as (ap (lines 0) e) w);
-      policy = ap (run p) (sym none) ∙ s.policy_to_come;
-    }
-
-    -- What the next record is judged on, p', is the policy of the answer.
-    pub reporting_record : {out' : Bytes} {p' : Policy} {r start len next at' : ℕ} (a : Answer) (code cite : ℕ)
-        → step_at b at ≡ Record start len next
-        → a ≡ judge p (take (next - start) (drop start b))
-        → code ≡ code_of a.verdict → cite ≡ cited_of a.verdict
-        → p' ≡ a.policy
-        → Wrote out n (line index code cite) out' r
-        → at' ≡ next
-        → Reporting out' p' at' (index + 1) r
-    unfolding run
-    reporting_record {start = start} {len} {next} {at'} a code cite e j f g h w after =
-        let found : Found b at start len next = step_record b at start len next e in
-        let long : next - start ≡ len = omega (arith, found.ends) in
-        record {
-          so_far = s.so_far ++ ((code, cite) ∷ []);
-          count = simp (length-append, s.count);
-          wrote = next_line code cite w;
-          to_come =
-              rw (append_assoc, f, g, h, j, long, after)
-              (ap (λ (l : List (ℕ × ℕ)). s.so_far ++ l) (sym (answers_of_record p b at start len next e)) ∙ s.to_come);
-          policy_to_come =
-              rw (h, j, long, after) (ap (run p) (sym (records_of_record b at start len next e)) ∙ s.policy_to_come);
-          index_low = omega (arith, s.index_low, found.long);
-          within = omega (arith, found.within);
-        }
-
-    pub reporting_torn : {out' : Bytes} {r code cite : ℕ} → step_at b at ≡ Torn
-        → Wrote out n (line index code cite) out' r → code ≡ 1 → cite ≡ 255
-        → ReportInto first b out₀ out' (record { written = r; policy = p })
-    reporting_torn e w f g =
-        whole
-        (s.so_far ++ (torn_place ∷ []))
-        (ap (λ (l : List (ℕ × ℕ)). s.so_far ++ l) (sym (answers_of_torn p b at e)) ∙ s.to_come)
-        (next_line 1 255 (rw (f, g) at w))
-        (records_of_torn b at e)
-
-    pub reporting_end : step_at b at ≡ End → ReportInto first b out₀ out (record { written = n; policy = p })
     reporting_end e =
-        whole
-        s.so_far
-        (sym (append-nil s.so_far) ∙ ap (λ (l : List (ℕ × ℕ)). s.so_far ++ l) (sym (answers_of_end p b at e)) ∙ s.to_come)
-        s.wrote
-        (records_of_end b at e)
+        let none = coming_none s.coming e in
+        let told : answers_of p s.records s.torn ≡ [] = answers_last p s.torn none.0 ∙ rw none.1 in
+        let all : s.so_far ≡ answers_from first b 0 =
+        sym (append-nil s.so_far) ∙ ap (λ (l : List (ℕ × ℕ)). s.so_far ++ l) (sym told) ∙ s.to_come in
+        record {
+          text = printed_of_wrote (wrote_as (ap (lines 0) all) s.wrote);
+          policy = ap (run p) (sym none.0) ∙ s.policy_to_come;
+        }
 
 -- From the founding on it is the report.
 pub printed_founding : {p : Policy} {b out out' : Bytes} {r : Reported} → p ≡ initial → ReportInto p b out out' r

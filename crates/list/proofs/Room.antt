@@ -1,13 +1,12 @@
 -- 212,992 bytes are enough for what an input of 65,536 bytes prints. Its records take 4 bytes or more, so it has at most 16,384
 -- lines; a line takes at most 13: five digits of an index below 100,000, two of a code, three of a cited byte, two spaces, a line feed.
-use mathlib.Core.Path.{◌≡◌, refl}
+use mathlib.Core.Path.{◌≡◌, refl, sym, ◌∙◌}
 use mathlib.Core.Bool.{Bool, true, false, cond}
 use mathlib.Core.List.{List, [], ◌∷◌, ◌++◌, append-nil}
 use Prim.Native.Nat.{ℕ, ◌+◌, ◌*◌, ◌≤◌, ◌<◌, zero-le}
 use native.Mathlib.Omega.{arith}
 use lib.Dec.{ltb}
-use lib.ListN.{length, take}
-use lib.Seq.{take_all}
+use lib.ListN.{length, take, length-append}
 use borrow.Author.Tests.{lt-ltb, ltb-false}
 use Rattle.std.specs.Prelude.{Err}
 use Rattle.reach.specs.declared.Policy.{Policy}
@@ -75,7 +74,11 @@ pub printed_count : (input buffer : Bytes) {buffer' : Bytes} {n : ℕ} → lengt
     → n ≡ length (output input)
 printed_count input buffer e p = omega (arith, p.count, output_fits input)
 
--- A buffer of more than 65,536 bytes that is full is too long: what it cut off is never missed.
-pub full_too_long : (buffer : Bytes) (read : ℕ) → 65536 < length buffer → length buffer ≤ read → output (take read buffer) ≡ too_long
+-- An input of more than 65,536 bytes is too long, and so is every longer one that begins so.
+pub output_past : (input : Bytes) → 65536 < length input → output input ≡ too_long
 unfolding output
-full_too_long buffer read h full = rw (take_all read buffer full, lt-ltb 65536 (length buffer) h)
+output_past input h = rw (lt-ltb 65536 (length input) h)
+
+pub output_longer : (front rest : Bytes) → 65536 < length front → output (front ++ rest) ≡ output front
+output_longer front rest h =
+    output_past (front ++ rest) (omega (arith, length-append front rest, h)) ∙ sym (output_past front h)

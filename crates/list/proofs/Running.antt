@@ -1,5 +1,6 @@
 -- What the loop of `run_from` keeps: the requests so far have their answers in the buffers, and those to come are run from the current
 -- policy. Each turn moves one request over; at the end none is to come.
+use Rattle.std.specs.Prelude.{Option, Some, None}
 use mathlib.Core.Path.{◌≡◌, refl, sym, ap, ◌∙◌}
 use mathlib.Core.Bool.{Bool, true, false, ◌&&◌}
 use mathlib.Core.List.{List, [], ◌∷◌, ◌++◌, append_assoc, append-nil, map-append}
@@ -12,10 +13,8 @@ use lib.Seq.{drop-cons, set-append_seam}
 use borrow.Author.Tests.{le-leb, lt-leb}
 use Rattle.reach.specs.declared.Policy.{Policy}
 use Rattle.reach.specs.Tests.{◌⇒◌∥◌}
-use Rattle.rules.specs.declared.Answer.{Answer}
-use Rattle.rules.specs.Judging.{code_of, cited_of, judge, answers}
+use Rattle.rules.specs.Judging.{judge, numbers_of, answers}
 use Rattle.rules.proofs.Table.{answers_none, answers_next}
-use Rattle.list.specs.declared.Outcome.{Outcome}
 use Rattle.text.specs.Text.{Bytes}
 use Rattle.list.specs.Runs.{run}
 use Rattle.list.specs.Parts.{part, parts, handed}
@@ -82,7 +81,7 @@ module _ (b ends codes₀ cited₀ : Bytes) (first : Policy) where
       (omega (arith, length-map s.so_far (λ (w : ℕ × ℕ). w.1), s.count, s.within, s.cited_room))
 
   pub running_end : {codes cited : Bytes} {p : Policy} {start i : ℕ} → Running codes cited p start i → length ends ≤ i
-      → RunInto first (handed b ends) codes₀ cited₀ codes cited (record { ran = true; policy = p })
+      → RunInto first (handed b ends) codes₀ cited₀ codes cited (Some p)
   unfolding parts run
   running_end {codes} {cited} {p} {start} {i} s h =
       let none : drop i ends ≡ [] = drop_of_length-le ends h in
@@ -105,32 +104,32 @@ module _ (b ends codes₀ cited₀ : Bytes) (first : Policy) where
       }
 
   module _ {codes cited : Bytes} {p : Policy} {start i : ℕ} (s : Running codes cited p start i) (low : i < length ends) where
-    -- What the next request is judged on, p', is the policy of the answer.
-    pub running_step : {p' : Policy} {start' i' : ℕ} (a : Answer) (code cite : ℕ) → a ≡ judge p (part b start (get_or ends i 0))
-        → code ≡ code_of a.verdict → cite ≡ cited_of a.verdict
-        → p' ≡ a.policy → start' ≡ get_or ends i 0 → i' ≡ i + 1
-        → Running (set codes i code) (set cited i cite) p' start' i'
+    -- A request has its answer a, and the next one is judged on the policy of the answer.
+    pub running_step : {p' : Policy} {start' i' : ℕ} {r : Bytes} {a : ℕ × ℕ} → r ≡ part b start (get_or ends i 0)
+        → a ≡ numbers_of (judge p r).verdict → p' ≡ (judge p r).policy
+        → start' ≡ get_or ends i 0 → i' ≡ i + 1
+        → Running (set codes i a.0) (set cited i a.1) p' start' i'
     unfolding parts run
-    running_step a code cite e f g h k next =
+    running_step {a = a} e f h k next =
         let to_come : parts b start (drop i ends) ≡ part b start (get_or ends i 0) ∷ parts b (get_or ends i 0) (drop (suc i) ends) =
         ap (parts b start) (drop-cons ends i 0 low) in
         record {
           within = omega (arith, next);
           codes_room = s.codes_room;
           cited_room = s.cited_room;
-          so_far = s.so_far ++ ((code, cite) ∷ []);
+          so_far = s.so_far ++ (a ∷ []);
           count = simp (length-append, s.count, next);
           codes_filled =
-              filled_next (codes_of s.so_far) codes₀ code s.codes_filled (length-map s.so_far _ ∙ s.count)
+              filled_next (codes_of s.so_far) codes₀ a.0 s.codes_filled (length-map s.so_far _ ∙ s.count)
               (omega (arith, s.codes_room))
-              ∙ ap (λ (l : Bytes). over l codes₀) (sym (map-append _ s.so_far ((code, cite) ∷ [])));
+              ∙ ap (λ (l : Bytes). over l codes₀) (sym (map-append _ s.so_far (a ∷ [])));
           cited_filled =
-              filled_next (cites_of s.so_far) cited₀ cite s.cited_filled (length-map s.so_far _ ∙ s.count)
+              filled_next (cites_of s.so_far) cited₀ a.1 s.cited_filled (length-map s.so_far _ ∙ s.count)
               (omega (arith, s.cited_room))
-              ∙ ap (λ (l : Bytes). over l cited₀) (sym (map-append _ s.so_far ((code, cite) ∷ [])));
+              ∙ ap (λ (l : Bytes). over l cited₀) (sym (map-append _ s.so_far (a ∷ [])));
           policy_to_come = rw (next, add-one, k, h, e) (ap (run p) (sym to_come) ∙ s.policy_to_come);
           answers_to_come =
-              rw (next, add-one, k, f, g, h, e, append_assoc)
+              rw (next, add-one, k, f, h, e, append_assoc)
               (ap (λ (l : List (ℕ × ℕ)). s.so_far ++ l)
               (sym (answers_next p (part b start (get_or ends i 0)) (parts b (get_or ends i 0) (drop (suc i) ends))))
               ∙ ap (λ (l : List Bytes). s.so_far ++ answers p l) (sym to_come)
@@ -138,12 +137,12 @@ module _ (b ends codes₀ cited₀ : Bytes) (first : Policy) where
         }
 
 -- A run by what it leaves in the two buffers, and by its outcome.
-pub run_into : {p : Policy} {list : List Bytes} {codes cited codes' cited' : Bytes} {r : Outcome}
+pub run_into : {p : Policy} {list : List Bytes} {codes cited codes' cited' : Bytes} {r : Option Policy}
     → ◌≡◌ {A = Bytes × Bytes} (codes', cited') (
       room list codes cited ⇒ over (codes_of (answers p list)) codes ∥ codes,
       room list codes cited ⇒ over (cites_of (answers p list)) cited ∥ cited,
     )
-    → r ≡ (room list codes cited ⇒ record { ran = true; policy = run p list } ∥ record { ran = false; policy = p })
+    → r ≡ (room list codes cited ⇒ Some (run p list) ∥ None)
     → RunInto p list codes cited codes' cited' r
 run_into e f = record {
   outcome = f;
@@ -154,7 +153,7 @@ run_into e f = record {
 -- A buffer that is too short.
 module _ (b ends codes cited : Bytes) (p : Policy) where
   abbrev Refused : Type 0
-  Refused = RunInto p (handed b ends) codes cited codes cited (record { ran = false; policy = p })
+  Refused = RunInto p (handed b ends) codes cited codes cited None
 
   no_room : room (handed b ends) codes cited ≡ false → Refused
   no_room e = record { outcome = rw e; codes_written = rw e; cited_written = rw e }

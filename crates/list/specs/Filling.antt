@@ -1,11 +1,10 @@
 -- What a list that is run leaves: the last policy, and in two lent buffers the code and the cited rule of each request, or in one buffer
 -- the lines that the program prints.
-use Rattle.std.specs.Prelude.{◌≡◌, Bool, true, false, ◌&&◌, List, ◌++◌, map, ℕ, leb, length, drop}
+use Rattle.std.specs.Prelude.{◌≡◌, Bool, ◌&&◌, List, ◌++◌, map, ℕ, leb, length, drop, Option, Some, None}
 use Rattle.reach.specs.declared.Policy.{Policy}
 use Rattle.reach.specs.Tests.{◌⇒◌∥◌}
 use Rattle.rules.specs.Judging.{answers}
 use Rattle.frame.specs.Reading.{records_from}
-use Rattle.list.specs.declared.Outcome.{Outcome}
 use Rattle.list.specs.declared.Reported.{Reported}
 use Rattle.text.specs.Text.{Bytes, lines, Printed}
 use Rattle.list.specs.Runs.{run}
@@ -26,10 +25,10 @@ over bytes buffer = bytes ++ drop (length bytes) buffer
 abbrev pub room : List Bytes → Bytes → Bytes → Bool
 room list codes cited = leb (length list) (length codes) && leb (length list) (length cited)
 
--- The list from the start, with the buffers before it and after it. A buffer that is shorter than the list is refused: no request is
--- judged, nothing is written, and the policy is the one at the start.
-pub record RunInto (start : Policy) (list : List Bytes) (codes cited codes' cited' : Bytes) (r : Outcome) : Type 0 where
-  pub outcome : r ≡ (room list codes cited ⇒ record { ran = true; policy = run start list } ∥ record { ran = false; policy = start })
+-- The list from the start, with the buffers before it and after it, and the policy that it leaves. A buffer that is shorter than the
+-- list is refused: no request is judged, nothing is written, and there is no policy but the one at the start.
+pub record RunInto (start : Policy) (list : List Bytes) (codes cited codes' cited' : Bytes) (r : Option Policy) : Type 0 where
+  pub outcome : r ≡ (room list codes cited ⇒ Some (run start list) ∥ None)
   pub codes_written : codes' ≡ (room list codes cited ⇒ over (codes_of (answers start list)) codes ∥ codes)
   pub cited_written : cited' ≡ (room list codes cited ⇒ over (cites_of (answers start list)) cited ∥ cited)
 

@@ -6,8 +6,8 @@ ghost use Rattle.list.specs.Filling.{ReportInto};
 ghost use Rattle.list.specs.Demand.{FoundingDemand3};
 
 use crate::Reported;
-use frame::{Step, read_after, read_at};
-use judge::{after, cited_of, code_of, decide};
+use crate::run::answered;
+use frame::{Reader, Torn};
 use reach::Policy;
 use text::{put_bytes, put_line};
 
@@ -15,47 +15,16 @@ use text::{put_bytes, put_line};
 pub fn report_from(p: Policy, input: &[u8], out: &mut [u8]) -> Reported
     ensures { ReportInto p input.now out.old out.new result }
 {
-    let mut current = p;
-    let mut at: usize = 0;
-    let mut index: usize = 0;
-    let mut n: usize = 0;
-    loop {
-        match read_at(input, at) {
-            Step::Record {
-                start,
-                length: _,
-                next,
-            } => {
-                let decision = decide(current, &input[start..next]);
-                let request = decision.request;
-                let verdict = decision.verdict;
-                let code = code_of(verdict);
-                let cited = cited_of(verdict);
-                // A refusal leaves the policy as it stood, and so does a USE, which cites a rule.
-                if code == 0 {
-                    if cited == 255 {
-                        current = after(current, request);
-                    }
-                }
-                n = put_line(out, n, index, code, cited);
-                at = read_after(input, at);
-                index = index + 1;
-            }
-            Step::Torn => {
-                let last = put_line(out, n, index, 1, 255);
-                return Reported {
-                    written: last,
-                    policy: current,
-                };
-            }
-            Step::End => {
-                return Reported {
-                    written: n,
-                    policy: current,
-                };
-            }
-        }
+    let mut policy = p;
+    let mut written = 0;
+    for (index, record) in Reader::new(input, 0).enumerate() {
+        let (code, cited) = match record {
+            Ok(bytes) => answered(&mut policy, bytes),
+            Err(Torn) => (1, 255),
+        };
+        written = put_line(out, written, index, code, cited);
     }
+    Reported { written, policy }
 }
 
 // The same from the founding on; and of the records that are read demand 3 holds, whole.

@@ -1,79 +1,69 @@
 // The run of a whole list, which is handed in as bytes and the ends of its records.
 ghost use Rattle.std.specs.Prelude.{◌≡◌};
 ghost use Rattle.reach.specs.Tables.{initial};
-ghost use Rattle.judge.specs.Answering.{decided};
+ghost use Rattle.rules.specs.Judging.{numbers_of, judge};
 ghost use Rattle.list.specs.Parts.{part, handed};
 ghost use Rattle.list.specs.Filling.{RunInto};
 ghost use Rattle.list.specs.Demand.{FoundingDemand3};
 
-use crate::Outcome;
-use judge::{Decision, after, cited_of, code_of, decide};
+use judge::{after, cited_of, code_of, decide};
 use reach::Policy;
 
-// The decision on the record between two places of the bytes.
-fn decide_part(p: Policy, bytes: &[u8], start: usize, end: usize) -> Decision
-    ensures { result ≡ decided p (part bytes.now start end) }
+// The code of the answer to a record, and the rule that it cites. The policy is the one after the record.
+pub(crate) fn answered(policy: &mut Policy, bytes: &[u8]) -> (u8, u8)
+    ensures numbers { result ≡ numbers_of (judge policy.old bytes.now).verdict }
+    ensures policy { policy.new ≡ (judge policy.old bytes.now).policy }
 {
-    if start <= end {
-        if end <= bytes.len() {
-            return decide(p, &bytes[start..end]);
+    let decision = decide(*policy, bytes);
+    let code = code_of(decision.verdict);
+    let cited = cited_of(decision.verdict);
+    // A refusal leaves the policy as it stood, and so does a USE, which cites a rule.
+    if code == 0 {
+        if cited == 255 {
+            *policy = after(*policy, decision.request);
         }
     }
-    decide(p, &bytes[..0])
+    (code, cited)
 }
 
-// Runs a list from any policy.
+// The bytes between two places; none where the second comes before the first, or lies past the end.
+fn part(bytes: &[u8], start: usize, end: usize) -> &[u8]
+    ensures { result.now ≡ part bytes.now start end }
+{
+    bytes.get(start..end).unwrap_or(&[])
+}
+
+// Runs a list from any policy, and answers the policy that it leaves. Where one of the two buffers has no room for all answers, nothing is
+// judged or written.
 pub fn run_from(
     p: Policy,
     bytes: &[u8],
     ends: &[usize],
     codes: &mut [u8],
     cited: &mut [u8],
-) -> Outcome
+) -> Option<Policy>
     ensures { RunInto p (handed bytes.now ends.now)
         codes.old cited.old codes.new cited.new result }
 {
     if codes.len() < ends.len() {
-        return Outcome {
-            ran: false,
-            policy: p,
-        };
+        return None;
     }
     if cited.len() < ends.len() {
-        return Outcome {
-            ran: false,
-            policy: p,
-        };
+        return None;
     }
-    let mut current = p;
-    let mut start: usize = 0;
-    let mut i: usize = 0;
-    while i < ends.len() {
-        let end = ends[i];
-        let decision = decide_part(current, bytes, start, end);
-        let request = decision.request;
-        let verdict = decision.verdict;
-        let code = code_of(verdict);
-        let rule = cited_of(verdict);
-        // A refusal leaves the policy as it stood, and so does a USE, which cites a rule.
-        if code == 0 {
-            if rule == 255 {
-                current = after(current, request);
-            }
-        }
+    let mut policy = p;
+    let mut start = 0;
+    for (i, end) in ends.iter().enumerate() {
+        let (code, rule) = answered(&mut policy, part(bytes, start, *end));
         codes[i] = code;
         cited[i] = rule;
-        start = end;
-        i = i + 1;
+        start = *end;
     }
-    Outcome {
-        ran: true,
-        policy: current,
-    }
+    Some(policy)
 }
 
 // Runs a list from the founding; and of that list demand 3 holds, whole.
-pub fn run_list(bytes: &[u8], ends: &[usize], codes: &mut [u8], cited: &mut [u8]) -> Outcome
+pub fn run_list(bytes: &[u8], ends: &[usize], codes: &mut [u8], cited: &mut [u8]) -> Option<Policy>
     ensures run_into { RunInto initial (handed bytes.now ends.now)
         codes.old cited.old codes.new cited.new result }
     ensures founding_demand3 { FoundingDemand3 (handed bytes.now ends.now) }

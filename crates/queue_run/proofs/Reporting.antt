@@ -1,17 +1,17 @@
--- What the loop of `report` keeps: the lines so far stand in the buffer, and those to come are of the records from the
--- club and the position on. Each record moves one line over; a torn place is the last; at the end none is to come.
-use mathlib.Core.Path.{◌≡◌, sym, ap, ◌∙◌}
-use mathlib.Core.List.{[], ◌++◌, append_assoc, append-nil}
-use Prim.Native.Nat.{ℕ, ◌+◌, ◌-◌, ◌≤◌, ◌<◌}
+-- What the loop of `report` keeps: the lines so far stand in the buffer, and those to come are of what the reader has left,
+-- from the club on. Each record, and a torn place, moves one line over; at the end none is to come.
+use Rattle.std.specs.Prelude.{Ok, Err}
+use mathlib.Core.Path.{◌≡◌, refl, sym, ap, ◌∙◌}
+use mathlib.Core.Bool.{Bool, true, false}
+use mathlib.Core.List.{List, [], ◌∷◌, ◌++◌, append_assoc, append-nil}
+use Prim.Native.Nat.{ℕ, ◌+◌, ◌≤◌, ◌<◌}
 use native.Mathlib.Numerals.{add-one}
-use native.Mathlib.Omega.{arith}
-use lib.ListN.{length, take, drop}
-use lib.Seq.{take_all}
+use lib.ListN.{length}
 use borrow.Author.Tests.{lt-ltb, le-ltb}
-use Rattle.frame.specs.declared.Step.TheVariants.{Record, Torn, End}
-use Rattle.frame.specs.Reading.{step_at, record_bytes}
-use Rattle.frame.proofs.Steps.{Found, step_record}
-use Rattle.frame.proofs.Records.{records_of_record, torn_of_record, records_of_torn, torn_of_torn, records_of_end, torn_of_end}
+use Rattle.reach.specs.Tests.{◌⇒◌∥◌}
+use Rattle.frame.specs.declared.Torn as mark
+use Rattle.frame.specs.Reading.{records_from, torn_from, Item, items_from}
+use Rattle.frame.proofs.Giving.{Coming, coming_from, coming_record, coming_torn, coming_none}
 use Rattle.text.specs.Text.{Bytes, line, Wrote, Printed}
 use Rattle.text.proofs.Writing.{wrote_none, wrote_as, wrote_then, printed_of_wrote}
 use Rattle.queue_run.specs.declared.club.Club.{Club}
@@ -19,68 +19,78 @@ use Rattle.queue_run.specs.declared.club.Told.{Told}
 use Rattle.queue_run.specs.Program.{founding, told_of}
 use Rattle.queue_run.specs.Output.{told_line, lines_of, lines_from, too_long, output}
 
--- ---- The lines from a position on go by the step there
+-- ---- The lines of what is to come go by what comes first
 
-module _ (c : Club) (i : ℕ) (b : Bytes) (at : ℕ) where
-  lines_of_record : (start len next : ℕ) → step_at b at ≡ Record start len next
-      → lines_from c i b at
-      ≡ told_line i (told_of c (record_bytes b start len)) ++ lines_from (told_of c (record_bytes b start len)).club (i + 1) b next
-  unfolding lines_of
-  lines_of_record start len next e =
-      rw (records_of_record b at start len next e, torn_of_record b at start len next e, add-one)
+lines_first : (c : Club) (i : ℕ) {records others : List Bytes} {r : Bytes} (torn : Bool) → records ≡ r ∷ others
+    → lines_of c i records torn ≡ told_line i (told_of c r) ++ lines_of (told_of c r).club (i + 1) others torn
+unfolding lines_of
+lines_first c i torn e = rw (e, add-one)
 
-  lines_of_torn : step_at b at ≡ Torn → lines_from c i b at ≡ line i 1 255
-  unfolding lines_of
-  lines_of_torn e = rw (records_of_torn b at e, torn_of_torn b at e)
-
-  lines_of_end : step_at b at ≡ End → lines_from c i b at ≡ []
-  unfolding lines_of
-  lines_of_end e = rw (records_of_end b at e, torn_of_end b at e)
+lines_last : (c : Club) (i : ℕ) {records : List Bytes} {torn : Bool} (t : Bool) → records ≡ [] → torn ≡ t
+    → lines_of c i records torn ≡ (t ⇒ line i 1 255 ∥ [])
+unfolding lines_of
+lines_last c i t e f = rw (e, f)
 
 -- ---- The loop
 
 module _ (b out₀ : Bytes) where
-  pub record Reporting (out : Bytes) (c : Club) (at index n : ℕ) : Type 0 where
+  pub record Reporting (out : Bytes) (c : Club) (items : List Item) (index n : ℕ) : Type 0 where
+    pub records : List Bytes
+    pub torn : Bool
+    pub coming : Coming items records torn
     pub so_far : Bytes
     pub wrote : Wrote out₀ 0 so_far out n
-    pub to_come : so_far ++ lines_from c index b at ≡ lines_from founding 0 b 0
-    pub index_low : index ≤ at
+    pub to_come : so_far ++ lines_of c index records torn ≡ lines_from founding 0 b 0
 
-  pub reporting_start : {c : Club} {index : ℕ} → c ≡ founding → index ≡ 0 → Reporting out₀ c 0 index 0
-  reporting_start e f =
-      record { so_far = []; wrote = wrote_none out₀ 0; to_come = rw (e, f); index_low = omega (arith, f) }
+  pub reporting_start : {c : Club} {items : List Item} {index : ℕ} → c ≡ founding → items ≡ items_from b 0 → index ≡ 0
+      → Reporting out₀ c items index 0
+  reporting_start e f g = record {
+    records = records_from b 0;
+    torn = torn_from b 0;
+    coming = rw f (coming_from b 0);
+    so_far = [];
+    wrote = wrote_none out₀ 0;
+    to_come = rw (e, g);
+  }
 
-  module _ {out : Bytes} {c : Club} {at index n : ℕ} (s : Reporting out c at index n) where
-    pub reporting_record : {out' : Bytes} {r start len next : ℕ} (t : Told)
-        → step_at b at ≡ Record start len next
-        → t ≡ told_of c (take (next - start) (drop start b))
-        → Wrote out n (told_line index t) out' r
-        → Reporting out' t.club next (index + 1) r
-    reporting_record {start = start} {len} {next} t e told w =
-        let found : Found b at start len next = step_record b at start len next e in
-        let long : next - start ≡ len = omega (arith, found.ends) in
-        record {
-          so_far = s.so_far ++ told_line index t;
-          wrote = wrote_then s.wrote w;
-          to_come =
-              rw (append_assoc, told, long)
-              (ap (λ (l : Bytes). s.so_far ++ l) (sym (lines_of_record c index b at start len next e)) ∙ s.to_come);
-          index_low = omega (arith, s.index_low, found.long);
-        }
+  module _ {out : Bytes} {c : Club} {items : List Item} {index n : ℕ} (s : Reporting out c items index n) where
+    module _ {out' : Bytes} {items' : List Item} {index' r : ℕ} (next : index' ≡ index + 1) where
+      pub reporting_record : {t : Told} {bytes : Bytes} → items ≡ Ok bytes ∷ items' → t ≡ told_of c bytes
+          → Wrote out n (told_line index t) out' r → Reporting out' t.club items' index' r
+      reporting_record {t} e told w =
+          let taken = coming_record s.coming e in
+          let lines : lines_of c index s.records s.torn ≡ told_line index t ++ lines_of t.club (index + 1) taken.others s.torn =
+          rw told (lines_first c index s.torn taken.is_first) in
+          record {
+            records = taken.others;
+            torn = s.torn;
+            coming = taken.coming;
+            so_far = s.so_far ++ told_line index t;
+            wrote = wrote_then s.wrote w;
+            to_come = rw (next, append_assoc) (ap (λ (l : Bytes). s.so_far ++ l) (sym lines) ∙ s.to_come);
+          }
 
-    pub reporting_torn : {out' : Bytes} {r code cite : ℕ} → step_at b at ≡ Torn
-        → Wrote out n (line index code cite) out' r → code ≡ 1 → cite ≡ 255 → Printed out₀ (lines_from founding 0 b 0) out' r
-    reporting_torn e w f g =
-        printed_of_wrote
-        (wrote_as (ap (λ (l : Bytes). s.so_far ++ l) (sym (lines_of_torn c index b at e)) ∙ s.to_come)
-        (wrote_then s.wrote (rw (f, g) at w)))
+      pub reporting_torn : {m : mark.Torn} → items ≡ Err m ∷ items' → Wrote out n (line index 1 255) out' r
+          → Reporting out' c items' index' r
+      reporting_torn e w =
+          let last = coming_torn s.coming e in
+          let lines : lines_of c index s.records s.torn ≡ line index 1 255 = lines_last c index true last.none last.is_torn in
+          let none : lines_of c index' [] false ≡ [] = lines_last c index' false refl refl in
+          record {
+            records = [];
+            torn = false;
+            coming = last.coming;
+            so_far = s.so_far ++ line index 1 255;
+            wrote = wrote_then s.wrote w;
+            to_come = rw (none, append-nil) (ap (λ (l : Bytes). s.so_far ++ l) (sym lines) ∙ s.to_come);
+          }
 
-    pub reporting_end : step_at b at ≡ End → Printed out₀ (lines_from founding 0 b 0) out n
+    pub reporting_end : items ≡ [] → Printed out₀ (lines_from founding 0 b 0) out n
     reporting_end e =
+        let none = coming_none s.coming e in
+        let lines : lines_of c index s.records s.torn ≡ [] = lines_last c index false none.0 none.1 in
         printed_of_wrote
-        (wrote_as
-        (sym (append-nil s.so_far) ∙ ap (λ (l : Bytes). s.so_far ++ l) (sym (lines_of_end c index b at e)) ∙ s.to_come)
-        s.wrote)
+        (wrote_as (sym (append-nil s.so_far) ∙ ap (λ (l : Bytes). s.so_far ++ l) (sym lines) ∙ s.to_come) s.wrote)
 
 -- ---- The limit on the input
 
@@ -95,8 +105,3 @@ pub printed_report : (b : Bytes) {out out' : Bytes} {r : ℕ} → length b ≤ 6
     → Printed out (output b) out' r
 unfolding output
 printed_report b h q = rw (le-ltb 65536 (length b) h) q
-
--- A buffer of more than 65,536 bytes that is full is too long.
-pub full_too_long : (n : ℕ) (buffer : Bytes) → 65536 < length buffer → length buffer ≤ n → output (take n buffer) ≡ too_long
-unfolding output
-full_too_long n buffer past full = rw (take_all n buffer full, lt-ltb 65536 (length buffer) past)

@@ -1,5 +1,8 @@
 -- What the program prints: a line for each record, in their order, and one for a torn place.
-use Rattle.std.specs.Prelude.{Bool, List, [], ◌∷◌, ◌++◌, ℕ, suc, eqb, ltb, length, take}
+use Rattle.std.specs.Prelude.{◌≡◌, ◌<◌, Bool, List, [], ◌∷◌, ◌++◌, ℕ, suc, eqb, ltb, length, take}
+use Rattle.std.proofs.Common.{arith, sym, ◌∙◌}
+use Rattle.std.proofs.lemmas.Bool.{lt-ltb}
+use Rattle.std.proofs.lemmas.List.{length-append}
 use Rattle.frame.specs.Reading.{records_from, torn_from}
 use Rattle.text.specs.Text.{Bytes, decimal, line}
 use Rattle.reach.specs.Tests.{◌⇒◌∥◌}
@@ -48,3 +51,12 @@ too_long = 116 ∷ 111 ∷ 111 ∷ 32 ∷ 108 ∷ 111 ∷ 110 ∷ 103 ∷ 10 ∷
 -- [01:runner.9] "The program reads standard input, at most 65,536 bytes; with more it prints the one line `too long`."
 unfoldable pub output : Bytes → Bytes
 output input = ltb 65536 (length input) ⇒ too_long ∥ lines_from founding 0 input 0
+
+-- An input past the limit is too long, and so is every longer one that begins so: what is cut off is never missed.
+pub output_past : (input : Bytes) → 65536 < length input → output input ≡ too_long
+unfolding output
+output_past input h = rw (lt-ltb 65536 (length input) h)
+
+pub output_longer : (front rest : Bytes) → 65536 < length front → output (front ++ rest) ≡ output front
+output_longer front rest h =
+    output_past (front ++ rest) (omega (arith, length-append front rest, h)) ∙ sym (output_past front h)

@@ -5,18 +5,19 @@
 
 #![tactic(auto)]
 
-ghost use Rattle.std.specs.Prelude.{◌≡◌, ◌≤◌, length, take, OnOk, IfSome};
+ghost use Rattle.std.specs.Prelude.{◌≡◌, ◌≤◌, ◌<◌, length, take, OnOk, IfSome};
 ghost use Rattle.std.specs.Io.KnownBytes.{Appends};
+ghost use Rattle.std.proofs.Common.{lit<};
 ghost use Rattle.text.specs.Text.{Printed};
 ghost use Rattle.queue_run.specs.Program.{founding};
-ghost use Rattle.queue_run.specs.Output.{lines_from, too_long, output};
+ghost use Rattle.queue_run.specs.Output.{lines_from, too_long, output, output_longer};
 
 mod club;
 mod lines;
 
 use club::{founded, taken_in};
-use frame::{Step, read_at};
-use intake::read_full;
+use frame::{Reader, Torn};
+use intake::Answer;
 use lines::put_told;
 use std::io;
 use std::io::{Read, Write};
@@ -28,31 +29,20 @@ fn report(input: &[u8], out: &mut [u8]) -> usize
     ensures { Printed out.old (lines_from founding 0 input.now 0) out.new result }
 {
     let mut club = founded();
-    let mut at: usize = 0;
-    let mut index: usize = 0;
-    let mut n: usize = 0;
-    loop {
-        match read_at(input, at) {
-            Step::Record {
-                start,
-                length: _,
-                next,
-            } => {
-                let told = taken_in(club, &input[start..next]);
-                n = put_told(out, n, index, told);
-                let after = told.club;
-                club = after;
-                at = next;
-                index = index + 1;
+    let mut written = 0;
+    for (index, record) in Reader::new(input, 0).enumerate() {
+        match record {
+            Ok(bytes) => {
+                let told = taken_in(club, bytes);
+                written = put_told(out, written, index, told);
+                club = told.club;
             }
-            Step::Torn => {
-                return put_line(out, n, index, 1, 255);
-            }
-            Step::End => {
-                return n;
+            Err(Torn) => {
+                written = put_line(out, written, index, 1, 255);
             }
         }
     }
+    written
 }
 
 // The same for an input of at most 65,536 bytes; for a longer one the line that says so.
@@ -65,18 +55,26 @@ fn output(input: &[u8], out: &mut [u8]) -> usize
     report(input, out)
 }
 
-// The text for what was read into a buffer, all of it, and how long it is: there is room for whatever is to be printed.
-// A full buffer says `too long`: what is told is never the first part of a longer input.
-fn answer(input: &[u8; 65537], read: usize, text: &mut [u8; 655360]) -> usize
-    ensures value { result ≡ length (output (take read input.now)) }
-    ensures text_after { take result text.new ≡ output (take read input.now) }
-    ensures input_value { length input.now ≤ read → output (take read input.now) ≡ too_long }
-{
-    let buffer: &[u8] = input;
-    if read < buffer.len() {
-        return output(&buffer[..read], text);
+// What is told of the events at the radio.
+struct Turns;
+
+impl Answer<655360> for Turns {
+    ghost output = { output };
+
+    // The text for what was read, all of it, and how long it is: there is room for whatever is to be printed. More than
+    // 65,536 bytes are too long: what is told is never the first part of a longer input.
+    fn answer(input: &[u8], text: &mut [u8; 655360]) -> usize
+        ensures fits { result ≤ 655360 }
+        ensures value { result ≡ length (output input.now) }
+        ensures text_after { take result text.new ≡ output input.now }
+        ensures input_value { 65536 < length input.now → output input.now ≡ too_long }
+    {
+        output(input, text)
     }
-    output(buffer, text)
+
+    ghost room = { lit< tt };
+
+    ghost longer = { output_longer };
 }
 
 // Reads the records, and prints what is told of all of them: of an input that is too long, only that it is. An error
@@ -85,11 +83,7 @@ fn run<R: Read, W: Write>(reader: &mut R, writer: &mut W) -> io::Result<()>
     ensures { OnOk result (IfSome (R.remaining reader.old) (λ records.
         Appends (W.contents writer.old) (W.contents writer.new) (output records))) }
 {
-    let mut input = [0u8; 65537];
-    let read = read_full(reader, &mut input)?;
-    let mut text = [0u8; 655360];
-    let n = answer(&input, read, &mut text);
-    writer.write_all(&text[..n])
+    intake::run::<655360, Turns, R, W>(reader, writer)
 }
 
 fn main(rt: HostRuntime) -> io::Result<()> {

@@ -47,13 +47,6 @@ impl<'a> Objects<'a> {
     }
 }
 
-// As `Objects::above`, of the two tables lent one by one.
-pub fn climb<'a>(sorts: &'a [u8; 64], memberships: &'a [u64; 64], x: u8) -> u64
-    ensures { SetOf result (λ g. UnderBy sorts.now memberships.now x g) }
-{
-    Objects { sorts, memberships }.above(x)
-}
-
 impl Policy {
     // All that x is under, itself too, as a set; none for an empty object or a number past the table.
     pub fn above(self, x: u8) -> u64

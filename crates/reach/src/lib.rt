@@ -15,12 +15,9 @@ mod surveying;
 mod tables;
 
 pub use appointments::{covers_pair, posts_of, sides_of};
-pub use climbing::climb;
-pub use orphans::ownerless;
-pub use rounds::not_under;
 pub use sets::{Members, has, just, only_if};
 pub use successors::{dismiss, take_out};
-pub use tables::{appointment_at, rule_at, sort_in};
+pub use tables::{appointment_at, rule_at};
 
 // The sorts of objects, by document 01's numbers: its members are users here, and its gear targets. A policy stores the number, as any byte
 // is legal there; one that is none of these is an empty object.

@@ -88,14 +88,3 @@ impl<'a> Objects<'a> {
         }
     }
 }
-
-// As `Objects::ownerless`, of the tables one by one.
-pub fn ownerless<'a>(
-    sorts: &'a [u8; 64],
-    memberships: &'a [u64; 64],
-    appointments: [Appointment; 32],
-) -> bool
-    ensures { result ≡ orphaned (tables_of sorts.now memberships.now appointments) }
-{
-    Objects { sorts, memberships }.ownerless(&appointments)
-}

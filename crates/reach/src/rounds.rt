@@ -39,14 +39,6 @@ impl<'a> Objects<'a> {
     }
 }
 
-// As `Objects::not_under`, of the two tables lent one by one.
-pub fn not_under<'a>(sorts: &'a [u8; 64], memberships: &'a [u64; 64], set: u64, over: u64) -> u64
-    ensures { SetOf result (λ x. (bit set x ≡ 1) × InUse (view (reach_of sorts.now memberships.now)) x ×
-        (UnderSomeBy sorts.now memberships.now over x → ⊥)) }
-{
-    Objects { sorts, memberships }.not_under(set, over)
-}
-
 impl Policy {
     // All that is under g, as a set.
     pub fn under_set(self, g: u8) -> u64

@@ -44,14 +44,6 @@ fn at<T: Copy, const N: usize>(table: &[T; N], i: u8, none: T) -> T
     table.get(i as usize).copied().unwrap_or(none)
 }
 
-// The sort of x by the lent table, as it counts; past the end of the table it is empty.
-pub fn sort_in(sorts: &[u8; 64], x: u8) -> u8
-    ensures { result ≡ sort_in sorts.now x }
-{
-    let n = at(sorts, x, 0);
-    if n <= 3 { n } else { 0 }
-}
-
 // The appointment at place i; past the table there is none.
 pub fn appointment_at(appointments: &[Appointment; 32], i: u8) -> Appointment
     ensures { result ≡ get_or appointments.now i no_appointment }

@@ -7,6 +7,7 @@ use Prim.Native.Nat.{ℕ, ◌+◌, ◌*◌, ◌≤◌, ◌<◌}
 use native.Mathlib.Decide.{dec_lt}
 use native.Mathlib.Omega.{arith}
 use borrow.Author.Tests.{ltb-false, le-ltb}
+use Rattle.std.specs.Prelude.{Option, Some, None}
 use Rattle.reach.specs.declared.Policy.{Policy}
 use Rattle.reach.specs.declared.Appointment.{Appointment}
 use Rattle.reach.specs.declared.AccessRule.{AccessRule}
@@ -17,7 +18,7 @@ use Rattle.reach.proofs.Sorts.{counted_known, sort_le}
 use Rattle.reach.proofs.Deciding.{standing_decides}
 use Rattle.rules.specs.Allowing.{Standing}
 use Rattle.snapshot.specs.declared.Entry.{Entry}
-use Rattle.snapshot.specs.declared.Entry.TheVariants.{Object, Membership, Appointed, Granted, Empty}
+use Rattle.snapshot.specs.declared.Entry.TheVariants.{Object, Membership, Appointed, Granted}
 use Rattle.snapshot.specs.Card.{known, bytes_of, object_of, membership_of, appointed_of, granted_of}
 use Rattle.snapshot.specs.Card.{object_at, membership_at, appointed_at, granted_at, file_of, Same}
 use Rattle.snapshot.specs.Loading.{places, entry}
@@ -27,38 +28,38 @@ use Rattle.snapshot.proofs.Blank.{Inside}
 
 -- ---- What a record says of its place
 
-abbrev sort_in : Entry → ℕ
-sort_in (Object x s) = s
-sort_in (Membership x g) = 0
-sort_in (Appointed i k h a b) = 0
-sort_in (Granted i u t o) = 0
-sort_in Empty = 0
+abbrev sort_in : Option Entry → ℕ
+sort_in (Some (Object x s)) = s
+sort_in (Some (Membership x g)) = 0
+sort_in (Some (Appointed i k h a b)) = 0
+sort_in (Some (Granted i u t o)) = 0
+sort_in None = 0
 
-abbrev stored_in : Entry → Bool
-stored_in (Object x s) = false
-stored_in (Membership x g) = true
-stored_in (Appointed i k h a b) = false
-stored_in (Granted i u t o) = false
-stored_in Empty = false
+abbrev stored_in : Option Entry → Bool
+stored_in (Some (Object x s)) = false
+stored_in (Some (Membership x g)) = true
+stored_in (Some (Appointed i k h a b)) = false
+stored_in (Some (Granted i u t o)) = false
+stored_in None = false
 
-abbrev appointment_in : Entry → Appointment
-appointment_in (Object x s) = no_appointment
-appointment_in (Membership x g) = no_appointment
-appointment_in (Appointed i k h a b) = record { kind = k; holder = h; a = a; b = b }
-appointment_in (Granted i u t o) = no_appointment
-appointment_in Empty = no_appointment
+abbrev appointment_in : Option Entry → Appointment
+appointment_in (Some (Object x s)) = no_appointment
+appointment_in (Some (Membership x g)) = no_appointment
+appointment_in (Some (Appointed i k h a b)) = record { kind = k; holder = h; a = a; b = b }
+appointment_in (Some (Granted i u t o)) = no_appointment
+appointment_in None = no_appointment
 
-abbrev rule_in : Entry → AccessRule
-rule_in (Object x s) = no_rule
-rule_in (Membership x g) = no_rule
-rule_in (Appointed i k h a b) = no_rule
-rule_in (Granted i u t o) = record { used = true; users = u; targets = t; operations = o }
-rule_in Empty = no_rule
+abbrev rule_in : Option Entry → AccessRule
+rule_in (Some (Object x s)) = no_rule
+rule_in (Some (Membership x g)) = no_rule
+rule_in (Some (Appointed i k h a b)) = no_rule
+rule_in (Some (Granted i u t o)) = record { used = true; users = u; targets = t; operations = o }
+rule_in None = no_rule
 
 sort_read : (s x : ℕ) → s ≤ 3 → sort_in (object_of s x) ≡ s
 sort_read s x l = go (known s) refl
   where
-    go : (t : Bool) → known s ≡ t → sort_in (t ⇒ Object x s ∥ Empty) ≡ s
+    go : (t : Bool) → known s ≡ t → sort_in (t ⇒ Some (Object x s) ∥ None) ≡ s
     go true e = refl
     go false e = omega (arith, ltb-false 0 (counted s) e, counted_known s l)
 
@@ -73,7 +74,7 @@ appointment_read w i s = rw ((standing_decides w).complete s)
 appointment_some : (w : Appointment) (i : ℕ) → Standing (appointment_in (appointed_of w i)) → Standing w
 appointment_some w i = go (standing w)
   where
-    go : (t : Bool) → Standing (appointment_in (t ⇒ Appointed i w.kind w.holder w.a w.b ∥ Empty)) → Standing w
+    go : (t : Bool) → Standing (appointment_in (t ⇒ Some (Appointed i w.kind w.holder w.a w.b) ∥ None)) → Standing w
     go true s = s
     go false s = absurd (omega (arith, s, counted_known 0 (omega arith)))
 
@@ -83,7 +84,7 @@ rule_read r i e = rw e
 rule_some : (r : AccessRule) (i : ℕ) → (rule_in (granted_of r i)).used ≡ true → r.used ≡ true
 rule_some r i = go r.used
   where
-    go : (t : Bool) → (rule_in (t ⇒ Granted i r.users r.targets r.operations ∥ Empty)).used ≡ true → t ≡ true
+    go : (t : Bool) → (rule_in (t ⇒ Some (Granted i r.users r.targets r.operations) ∥ None)).used ≡ true → t ≡ true
     go true e = refl
     go false e = absurd (false≢true e)
 

@@ -10,7 +10,8 @@ use lib.Dec.{leb, ltb}
 use lib.ListN.{length, take, drop, length-append}
 use lib.Seq.{drop_at, take-append-le, take_all}
 use borrow.Author.Tests.{lt-leb, le-ltb}
-use Rattle.frame.specs.declared.Step.TheVariants.{Record, End}
+use Rattle.std.specs.Prelude.{Option, Some, None}
+use Rattle.frame.specs.Reading.{Record, End}
 use Rattle.frame.specs.Fields.{length_field}
 use Rattle.frame.specs.Reading.{step_at, record_bytes, records_from, torn_from}
 use Rattle.frame.proofs.Steps.{end_step}
@@ -18,29 +19,26 @@ use Rattle.frame.proofs.Records.{records_of_record, torn_of_record, records_of_e
 use Rattle.reach.specs.Tables.{View}
 use Rattle.text.specs.Text.{Bytes}
 use Rattle.snapshot.specs.declared.Entry.{Entry}
-use Rattle.snapshot.specs.declared.Entry.TheVariants.{Object, Membership, Appointed, Granted, Empty}
+use Rattle.snapshot.specs.declared.Entry.TheVariants.{Object, Membership, Appointed, Granted}
 use Rattle.snapshot.specs.Card.{bytes_of, record_of, from, EveryFileFramed}
 use Rattle.snapshot.specs.Loading.{places, entry, valid, size_of}
 use Rattle.snapshot.proofs.Records.{size_is, size_large}
 use Rattle.snapshot.proofs.Runs.{from_next, from_end}
 use Rattle.snapshot.proofs.Places.{Fits, entry_fits, each, in_order_is, file_is}
 
-field_is : (e : Entry) (rest : Bytes) → valid e ≡ true → length_field (bytes_of e ++ rest) ≡ size_of e
-field_is (Object x s) rest v = refl
-field_is (Membership x g) rest v = refl
-field_is (Appointed i k h a b) rest v = refl
-field_is (Granted i u t o) rest v = refl
-field_is Empty rest v = absurd (false≢true v)
+field_is : (e : Option Entry) (rest : Bytes) → valid e ≡ true → length_field (bytes_of e ++ rest) ≡ size_of e
+field_is (Some (Object x s)) rest v = refl
+field_is (Some (Membership x g)) rest v = refl
+field_is (Some (Appointed i k h a b)) rest v = refl
+field_is (Some (Granted i u t o)) rest v = refl
+field_is None rest v = absurd (false≢true v)
 
-record_is : (e : Entry) → valid e ≡ true → record_of e ≡ bytes_of e ∷ []
-record_is (Object x s) v = refl
-record_is (Membership x g) v = refl
-record_is (Appointed i k h a b) v = refl
-record_is (Granted i u t o) v = refl
-record_is Empty v = absurd (false≢true v)
+record_is : (e : Option Entry) → valid e ≡ true → record_of e ≡ bytes_of e ∷ []
+record_is (Some e) v = refl
+record_is None v = absurd (false≢true v)
 
 -- Behind the bytes that stand before it, a record is found where it stands.
-step_here : (before : Bytes) (e : Entry) (rest : Bytes) → valid e ≡ true
+step_here : (before : Bytes) (e : Option Entry) (rest : Bytes) → valid e ≡ true
     → step_at (before ++ (bytes_of e ++ rest)) (length before) ≡ Record (length before) (size_of e) (length before + size_of e)
 unfolding step_at
 step_here before e rest v =
@@ -54,7 +52,7 @@ step_here before e rest v =
     let fits : ltb (length (bytes_of e ++ rest)) (size_of e) ≡ false = le-ltb (length (bytes_of e ++ rest)) (size_of e) (omega (arith, n)) in
     rw (d, long, field_is e rest v, whole, own, fits)
 
-bytes_here : (before : Bytes) (e : Entry) (rest : Bytes) → record_bytes (before ++ (bytes_of e ++ rest)) (length before) (size_of e) ≡ bytes_of e
+bytes_here : (before : Bytes) (e : Option Entry) (rest : Bytes) → record_bytes (before ++ (bytes_of e ++ rest)) (length before) (size_of e) ≡ bytes_of e
 bytes_here before e rest =
     ap (take (size_of e)) (drop_at before (bytes_of e ++ rest) (length before) refl)
     ∙ take-append-le (size_of e) (bytes_of e) rest (omega (arith, size_is e))
@@ -71,7 +69,7 @@ found_end before =
     end_step (before ++ []) (length before) (omega (arith, ap length (append-nil before))) in
     record { records = records_of_end (before ++ []) (length before) e; whole = torn_of_end (before ++ []) (length before) e }
 
-found_record : (before : Bytes) (e : Entry) (rest : Bytes) (list : List Bytes) → valid e ≡ true
+found_record : (before : Bytes) (e : Option Entry) (rest : Bytes) (list : List Bytes) → valid e ≡ true
     → Found ((before ++ bytes_of e) ++ rest) (length (before ++ bytes_of e)) list
     → Found (before ++ (bytes_of e ++ rest)) (length before) (record_of e ++ list)
 found_record before e rest list v more =
@@ -90,7 +88,7 @@ found_record before e rest list v more =
 
 module _ (v : View) where
   -- An empty place, which gives nothing, and a record.
-  found_place : (before : Bytes) (k : ℕ) (e : Entry) (rest : Bytes) (list : List Bytes) → Fits k e
+  found_place : (before : Bytes) (k : ℕ) (e : Option Entry) (rest : Bytes) (list : List Bytes) → Fits k e
       → Found ((before ++ bytes_of e) ++ rest) (length (before ++ bytes_of e)) list
       → Found (before ++ (bytes_of e ++ rest)) (length before) (record_of e ++ list)
   found_place before k e rest list (inl x) more =

@@ -3,16 +3,17 @@
 use mathlib.Core.Path.{◌≡◌, refl, ap, ◌∙◌}
 use mathlib.Core.Bool.{Bool, true, false}
 use mathlib.Core.List.{List, [], ◌++◌}
-use Prim.Native.Nat.{ℕ, zero, suc, ◌+◌, ◌-◌, ◌≤◌, ◌<◌}
+use Prim.Native.Nat.{ℕ, zero, suc, ◌+◌, ◌-◌, ◌≤◌, ◌<◌, ◌*◌, ◌^◌}
 use native.Mathlib.Omega.{arith}
 use lib.ListN.{length, length-append}
+use Rattle.std.specs.Prelude.{Some, None}
 use Rattle.reach.specs.Tests.{◌⇒◌∥◌}
 use Rattle.reach.specs.Tables.{View, standing}
 use Rattle.reach.specs.declared.Appointment.{Appointment}
 use Rattle.reach.specs.declared.AccessRule.{AccessRule}
 use Rattle.soundness.specs.Soundness.{Sound}
-use Rattle.snapshot.specs.declared.Entry.TheVariants.{Object, Membership, Appointed, Granted, Empty}
-use Rattle.snapshot.specs.Card.{known, bytes_of}
+use Rattle.snapshot.specs.declared.Entry.TheVariants.{Object, Membership, Appointed, Granted}
+use Rattle.snapshot.specs.Card.{known, bytes_of, file_of}
 use Rattle.snapshot.specs.Card.{object_at, membership_at, appointed_at, granted_at, from, in_order}
 use Rattle.snapshot.specs.Answers.{NoneLonger}
 use Rattle.snapshot.proofs.Runs.{from_next, from_append, from_length, from_none}
@@ -23,7 +24,7 @@ object_length : (v : View) (x : ℕ) → length (bytes_of (object_at v x)) ≤ 6
 unfolding object_at
 object_length v x = go (known (v.sort x))
   where
-    go : (t : Bool) → length (bytes_of (t ⇒ Object x (v.sort x) ∥ Empty)) ≤ 6
+    go : (t : Bool) → length (bytes_of (t ⇒ Some (Object x (v.sort x)) ∥ None)) ≤ 6
     go true = omega arith
     go false = omega arith
 
@@ -31,7 +32,7 @@ membership_length : (v : View) (x g : ℕ) → length (bytes_of (membership_at v
 unfolding membership_at
 membership_length v x g = go (v.stored x g)
   where
-    go : (t : Bool) → length (bytes_of (t ⇒ Membership x g ∥ Empty)) ≤ 6
+    go : (t : Bool) → length (bytes_of (t ⇒ Some (Membership x g) ∥ None)) ≤ 6
     go true = omega arith
     go false = omega arith
 
@@ -39,7 +40,7 @@ appointed_length : (v : View) (i : ℕ) → length (bytes_of (appointed_at v i))
 unfolding appointed_at
 appointed_length v i = go (v.appointment i) (standing (v.appointment i))
   where
-    go : (w : Appointment) (t : Bool) → length (bytes_of (t ⇒ Appointed i w.kind w.holder w.a w.b ∥ Empty)) ≤ 9
+    go : (w : Appointment) (t : Bool) → length (bytes_of (t ⇒ Some (Appointed i w.kind w.holder w.a w.b) ∥ None)) ≤ 9
     go w true = omega arith
     go w false = omega arith
 
@@ -47,7 +48,7 @@ granted_length : (v : View) (i : ℕ) → length (bytes_of (granted_at v i)) ≤
 unfolding granted_at
 granted_length v i = go (v.rule i) (v.rule i).used
   where
-    go : (r : AccessRule) (t : Bool) → length (bytes_of (t ⇒ Granted i r.users r.targets r.operations ∥ Empty)) ≤ 8
+    go : (r : AccessRule) (t : Bool) → length (bytes_of (t ⇒ Some (Granted i r.users r.targets r.operations) ∥ None)) ≤ 8
     go r true = omega arith
     go r false = omega arith
 
@@ -57,7 +58,7 @@ not_stored : (v : View) (x g : ℕ) → (v.stored x g ≡ true → ⊥) → byte
 unfolding membership_at
 not_stored v x g n = go (v.stored x g) refl
   where
-    go : (t : Bool) → v.stored x g ≡ t → bytes_of (t ⇒ Membership x g ∥ Empty) ≡ []
+    go : (t : Bool) → v.stored x g ≡ t → bytes_of (t ⇒ Some (Membership x g) ∥ None) ≡ []
     go true e = absurd (n e)
     go false e = refl
 
@@ -101,11 +102,13 @@ row_length v s x = by (v.sort x) refl
 
 -- ---- The whole
 
-pub largest_file : NoneLonger
+-- By how long a row is at most.
+file_by_rows : (v : View) (n : ℕ) → ((x : ℕ) → length (from 64 0 (λ g. bytes_of (membership_at v x g))) ≤ n)
+    → length (file_of v) ≤ 1184 + n * 64
 unfolding in_order
-largest_file v s =
+file_by_rows v n rows =
     let o = from_length 64 0 6 (λ x. bytes_of (object_at v x)) (λ k a b. object_length v k) in
-    let m = from_length 64 0 378 (λ x. from 64 0 (λ g. bytes_of (membership_at v x g))) (λ k a b. row_length v s k) in
+    let m = from_length 64 0 n (λ x. from 64 0 (λ g. bytes_of (membership_at v x g))) (λ k a b. rows k) in
     let w = from_length 32 0 9 (λ i. bytes_of (appointed_at v i)) (λ k a b. appointed_length v k) in
     let r = from_length 64 0 8 (λ i. bytes_of (granted_at v i)) (λ k a b. granted_length v k) in
     omega (
@@ -122,3 +125,13 @@ largest_file v s =
           ++ from 32 0 (λ i. bytes_of (appointed_at v i)))
           (from 64 0 (λ i. bytes_of (granted_at v i))),
     )
+
+pub largest_file : NoneLonger
+largest_file v s = file_by_rows v 378 (row_length v s)
+
+-- The length of any file, of a sound policy or not, fits a word.
+pub file_fits : (v : View) → length (file_of v) < 2 ^ 64
+file_fits v =
+    let short =
+    file_by_rows v 384 (λ x. from_length 64 0 6 (λ g. bytes_of (membership_at v x g)) (λ k a b. membership_length v x k)) in
+    omega (arith, short)

@@ -8,12 +8,13 @@ use Prim.Native.Nat.{ℕ, ◌+◌, ◌-◌, ◌*◌, ◌/◌, ◌%◌, ◌<◌}
 use native.Mathlib.Omega.{arith}
 use lib.Dec.{ltb}
 use borrow.Author.Tests.{ltb-true, ltb-false, lt-ltb, le-ltb}
+use Rattle.std.specs.Prelude.{Option, Some, None}
 use Rattle.reach.specs.declared.Appointment.{Appointment}
 use Rattle.reach.specs.declared.AccessRule.{AccessRule}
 use Rattle.reach.specs.Tests.{◌⇒◌∥◌}
 use Rattle.reach.specs.Tables.{View, standing}
 use Rattle.snapshot.specs.declared.Entry.{Entry}
-use Rattle.snapshot.specs.declared.Entry.TheVariants.{Object, Appointed, Granted, Empty}
+use Rattle.snapshot.specs.declared.Entry.TheVariants.{Object, Appointed, Granted}
 use Rattle.snapshot.specs.Card.{known, bytes_of, object_of, membership_of, appointed_of, granted_of}
 use Rattle.snapshot.specs.Card.{object_at, membership_at, appointed_at, granted_at, from, in_order, file_of}
 use Rattle.snapshot.specs.Loading.{places, number_of, entry, valid}
@@ -22,14 +23,14 @@ use Rattle.snapshot.proofs.Runs.{from_same, from_append, from_moved, from_rows}
 -- ---- What stands at a place
 
 -- None, or a record that is valid and has that number.
-abbrev pub Fits : ℕ → Entry → Type 0
-Fits k e = (e ≡ Empty) ⊎ ((valid e ≡ true) × (number_of e ≡ k))
+abbrev pub Fits : ℕ → Option Entry → Type 0
+Fits k e = (e ≡ None) ⊎ ((valid e ≡ true) × (number_of e ≡ k))
 
 object_fits : (s x : ℕ) → x < 64 → Fits x (object_of s x)
 unfolding number_of
 object_fits s x l = by (known s) refl
   where
-    by : (t : Bool) → known s ≡ t → Fits x (t ⇒ Object x s ∥ Empty)
+    by : (t : Bool) → known s ≡ t → Fits x (t ⇒ Some (Object x s) ∥ None)
     by true e = inr (rw (lt-ltb x 64 l, e), refl)
     by false e = inl refl
 
@@ -42,7 +43,7 @@ appointed_fits : (w : Appointment) (i k : ℕ) → i < 32 → 4160 + i ≡ k →
 unfolding number_of standing
 appointed_fits w i k l q = by (standing w) refl
   where
-    by : (t : Bool) → standing w ≡ t → Fits k (t ⇒ Appointed i w.kind w.holder w.a w.b ∥ Empty)
+    by : (t : Bool) → standing w ≡ t → Fits k (t ⇒ Some (Appointed i w.kind w.holder w.a w.b) ∥ None)
     by true e = inr (rw (lt-ltb i 32 l, e), q)
     by false e = inl refl
 
@@ -50,12 +51,12 @@ granted_fits : (r : AccessRule) (i k : ℕ) → i < 64 → 4192 + i ≡ k → Fi
 unfolding number_of
 granted_fits r i k l q = by r.used
   where
-    by : (t : Bool) → Fits k (t ⇒ Granted i r.users r.targets r.operations ∥ Empty)
+    by : (t : Bool) → Fits k (t ⇒ Some (Granted i r.users r.targets r.operations) ∥ None)
     by true = inr (lt-ltb i 64 l, q)
     by false = inl refl
 
 -- The place of a number, by the tests on it.
-abbrev pub entry_by : Bool → Bool → Bool → View → ℕ → Entry
+abbrev pub entry_by : Bool → Bool → Bool → View → ℕ → Option Entry
 entry_by t u w v k =
     t ⇒ object_at v k ∥
     u ⇒ membership_at v ((k - 64) / 64) ((k - 64) % 64) ∥
@@ -105,10 +106,10 @@ module _ (v : View) where
 -- ---- The order of the file is that of the numbers
 
 -- The entry of each place, and what it gives.
-abbrev pub each : {A : Type 0} → (Entry → List A) → View → ℕ → List A
+abbrev pub each : {A : Type 0} → (Option Entry → List A) → View → ℕ → List A
 each f v k = f (entry v k)
 
-module _ {A : Type 0} (f : Entry → List A) (v : View) where
+module _ {A : Type 0} (f : Option Entry → List A) (v : View) where
   objects : from 64 0 (each f v) ≡ from 64 0 (λ x. f (object_at v x))
   objects = from_same 64 0 (each f v) (λ x. f (object_at v x)) (λ k a b. ap f (at_object v k (omega arith)))
 

@@ -12,14 +12,14 @@ use lib.Dec.{eqb}
 use lib.ListN.{length, drop, length-append}
 use lib.Seq.{drop_at}
 use borrow.Author.Tests.{ne_eqb, le-leb}
+use Rattle.std.specs.Prelude.{Option, None, Result, Ok}
 use Rattle.reach.specs.declared.Policy.{Policy}
 use Rattle.reach.specs.Tables.{View, view, Sized}
 use Rattle.text.specs.Text.{Bytes}
 use Rattle.snapshot.specs.declared.Entry.{Entry}
-use Rattle.snapshot.specs.declared.Entry.TheVariants.{Empty}
-use Rattle.snapshot.specs.declared.Loaded.{Loaded}
+use Rattle.snapshot.specs.declared.CardError.{CardError}
 use Rattle.snapshot.specs.Card.{bytes_of, from, file_of}
-use Rattle.snapshot.specs.Loading.{places, number_of, entry, valid, size_of, store, blank, loaded, load}
+use Rattle.snapshot.specs.Loading.{places, number_of, entry, valid, size_of, store, blank, load}
 use Rattle.snapshot.proofs.Records.{size_is, size_large, front_back}
 use Rattle.snapshot.proofs.Runs.{from_next, from_end}
 use Rattle.snapshot.proofs.Places.{Fits, entry_fits, each, file_is}
@@ -28,24 +28,24 @@ use Rattle.snapshot.proofs.Blank.{blank_sized, blank_none, Inside, blank_inside,
 use Rattle.snapshot.proofs.Taking.{Open}
 
 -- A policy was read whose places are those of the view.
-pub record Back (v : View) (r : Loaded) : Type 0 where
+pub record Back (v : View) (r : Result Policy CardError) : Type 0 where
   pub read : Policy
   pub sized : Sized read
   pub inside : Inside (view read)
   pub entries : (k : ℕ) → k < places → entry (view read) k ≡ entry v k
-  pub is : r ≡ loaded read
+  pub is : r ≡ Ok read
 
 -- ---- One record
 
-load_end : (i : ℕ) (kept p : Policy) (n : ℕ) → load kept i p n [] ≡ loaded p
+load_end : (i : ℕ) (p : Policy) (n : ℕ) → load i p n [] ≡ Ok p
 unfolding load
-load_end zero kept p n = refl
-load_end (suc i) kept p n = refl
+load_end zero p n = refl
+load_end (suc i) p n = refl
 
-load_next : (i : ℕ) (kept p : Policy) (n : ℕ) (e : Entry) (rest : Bytes) → valid e ≡ true → n ≤ number_of e
-    → load kept (suc i) p n (bytes_of e ++ rest) ≡ load kept i (store p e) (suc (number_of e)) rest
+load_next : (i : ℕ) (p : Policy) (n : ℕ) (e : Option Entry) (rest : Bytes) → valid e ≡ true → n ≤ number_of e
+    → load (suc i) p n (bytes_of e ++ rest) ≡ load i (store p e) (suc (number_of e)) rest
 unfolding load
-load_next i kept p n e rest v h =
+load_next i p n e rest v h =
     let d : drop (size_of e) (bytes_of e ++ rest) ≡ rest = drop_at (bytes_of e) rest (size_of e) (size_is e) in
     let q : eqb (length (bytes_of e ++ rest)) 0 ≡ false =
     ne_eqb (length (bytes_of e ++ rest)) 0 (λ z. omega (arith, size_large e v, size_is e, length-append (bytes_of e) rest)) in
@@ -68,7 +68,7 @@ below_next p v n a x k c = by (dec_le (suc k) n)
     by (yes d) = a k d
     by (no d) = let e : k ≡ n = omega arith in rw e x
 
-upto_skip : (p : Policy) (v : View) (n : ℕ) → n < places → Upto p v n → entry v n ≡ Empty → Upto p v (suc n)
+upto_skip : (p : Policy) (v : View) (n : ℕ) → n < places → Upto p v n → entry v n ≡ None → Upto p v (suc n)
 upto_skip p v n l u x =
     record {
       sized = u.sized;
@@ -77,7 +77,7 @@ upto_skip p v n l u x =
       below = below_next p v n u.below (u.after n (le_refl n) l ∙ sym x);
     }
 
-upto_store : (p : Policy) (v : View) (n : ℕ) (e : Entry) → Upto p v n → entry v n ≡ e → valid e ≡ true → number_of e ≡ n
+upto_store : (p : Policy) (v : View) (n : ℕ) (e : Option Entry) → Upto p v n → entry v n ≡ e → valid e ≡ true → number_of e ≡ n
     → Upto (store p e) v (suc n)
 upto_store p v n e u x f w =
     record {
@@ -90,17 +90,17 @@ upto_store p v n e u x f w =
           (ap (entry (view (store p e))) (sym w) ∙ stored_same p e u.sized f ∙ sym x);
     }
 
-module _ (kept : Policy) (v : View) where
+module _ (v : View) where
   -- The places from n on are read back, whatever was read before them, and however many more records may come.
   abbrev Backs : ℕ → Bytes → Type 0
-  Backs n b = (i m : ℕ) (p : Policy) → m ≤ n → length b ≤ i → Upto p v n → Back v (load kept i p m b)
+  Backs n b = (i m : ℕ) (p : Policy) → m ≤ n → length b ≤ i → Upto p v n → Back v (load i p m b)
 
-  back_place : (n : ℕ) (e : Entry) (rest : Bytes) → entry v n ≡ e → Fits n e → n < places → Backs (suc n) rest → Backs n (bytes_of e ++ rest)
+  back_place : (n : ℕ) (e : Option Entry) (rest : Bytes) → entry v n ≡ e → Fits n e → n < places → Backs (suc n) rest → Backs n (bytes_of e ++ rest)
   back_place n e rest g (inl x) l more i m p h b u = rw x (more i m p (omega arith) (rw x at b) (upto_skip p v n l u (g ∙ x)))
   back_place n e rest g (inr x) l more zero m p h b u =
       absurd (omega (arith, size_large e x.0, size_is e, length-append (bytes_of e) rest))
   back_place n e rest g (inr x) l more (suc j) m p h b u =
-      rw (load_next j kept p m e rest x.0 (omega (arith, x.1)))
+      rw (load_next j p m e rest x.0 (omega (arith, x.1)))
       (more j (suc (number_of e)) (store p e) (omega (arith, x.1))
       (omega (arith, size_large e x.0, size_is e, length-append (bytes_of e) rest))
       (upto_store p v n e u g x.0 x.1))
@@ -112,7 +112,7 @@ module _ (kept : Policy) (v : View) where
         sized = u.sized;
         inside = u.inside;
         entries = λ k c. u.below k (omega arith);
-        is = rw (from_end n (each bytes_of v)) (load_end i kept p m);
+        is = rw (from_end n (each bytes_of v)) (load_end i p m);
       }
 
   back_suc : (l n : ℕ) → n + suc l ≡ places → Backs (suc n) (from l (suc n) (each bytes_of v)) → Backs n (from (suc l) n (each bytes_of v))
@@ -127,10 +127,10 @@ module _ (kept : Policy) (v : View) where
   back zero n q = back_end n q
   back (suc l) n q = back_suc l n q (back l (suc n) (on_one n l q))
 
-  back_all : Back v (load kept (length (from places 0 (each bytes_of v))) blank 0 (from places 0 (each bytes_of v)))
+  back_all : Back v (load (length (from places 0 (each bytes_of v))) blank 0 (from places 0 (each bytes_of v)))
   back_all =
       back places 0 (omega arith) (length (from places 0 (each bytes_of v))) 0 blank (le_refl 0) (le_refl _)
       (record { sized = blank_sized; inside = blank_inside; after = λ k c d. blank_none k; below = λ k c. absurd (not-suc-le-zero c) })
 
-  pub load_back : Back v (load kept (length (file_of v)) blank 0 (file_of v))
-  load_back = subst (λ (b : Bytes). Back v (load kept (length b) blank 0 b)) (file_is v) back_all
+  pub load_back : Back v (load (length (file_of v)) blank 0 (file_of v))
+  load_back = subst (λ (b : Bytes). Back v (load (length b) blank 0 b)) (file_is v) back_all

@@ -14,6 +14,7 @@ use lib.Count.{count_trailing_zeros, under}
 use lib.ListN.{length}
 use lib.Pow.{pow_pos}
 use borrow.Author.Tests.{eq-eqb, ne_eqb}
+use Rattle.std.specs.Prelude.{Some}
 use Rattle.reach.specs.Tests.{◌⇒◌∥◌}
 use Rattle.reach.specs.Words.{bit, has}
 use Rattle.reach.specs.Successors.{without_bit}
@@ -25,8 +26,8 @@ use Rattle.snapshot.specs.declared.Entry.TheVariants.{Membership}
 use Rattle.snapshot.specs.declared.Pen.{Pen}
 use Rattle.snapshot.specs.Card.{bytes_of, membership_of, from}
 use Rattle.snapshot.specs.Writing.{Penned, row_of}
-use Rattle.snapshot.proofs.Runs.{from_end, from_more, from_append, from_none, from_length}
-use Rattle.snapshot.proofs.Penning.{penned_as, penned_then, penned_nothing, record_small}
+use Rattle.snapshot.proofs.Runs.{from_end, from_more, from_append, from_none}
+use Rattle.snapshot.proofs.Penning.{penned_as, penned_then, penned_nothing}
 
 -- ---- The lowest number of a set
 
@@ -85,30 +86,21 @@ module _ (groups x : ℕ) where
     pub none_before : (k : ℕ) → k < place → has left k ≡ false
     pub penned : Penned o pen (from place 0 place_bytes) o' pen'
 
-  pub rowing_start : (o : Bytes) (pen : Pen) → groups < 2 ^ 64 → Rowing o pen groups o pen
-  rowing_start o pen word =
+  pub rowing_start : (o : Bytes) (pen : Pen) → pen.needed < 2 ^ 64 → groups < 2 ^ 64 → Rowing o pen groups o pen
+  rowing_start o pen fits word =
       record {
         place = 0;
         within = omega arith;
         word = word;
         from_there = λ k l. refl;
         none_before = λ k l. absurd (not-suc-le-zero l);
-        penned = penned_nothing (from_end 0 place_bytes);
+        penned = penned_nothing fits (from_end 0 place_bytes);
       }
 
   gives_nothing : (k : ℕ) → has groups k ≡ false → place_bytes k ≡ []
   gives_nothing k e = rw e
 
   module _ {o o' : Bytes} {pen a : Pen} {left : ℕ} (w : Rowing o pen left o' a) where
-    pub rowing_needed : a.needed ≤ pen.needed + 576
-    rowing_needed =
-        omega (
-          arith,
-          w.penned.count,
-          w.within,
-          from_length w.place 0 9 place_bytes (λ k a b. record_small (membership_of (has groups k) x k)),
-        )
-
     pub rowing_length : length o' ≡ length o
     rowing_length = w.penned.wrote.length_kept
 
@@ -152,10 +144,10 @@ module _ (groups x : ℕ) where
           ∙ ap (λ (b : Bytes). from w.place 0 place_bytes ++ b) between
           ∙ append-nil (from w.place 0 place_bytes)
 
-      here : {y g : ℕ} → y ≡ x → g ≡ low → bytes_of (Membership y g) ≡ place_bytes low
+      here : {y g : ℕ} → y ≡ x → g ≡ low → bytes_of (Some (Membership y g)) ≡ place_bytes low
       here e f = rw (e, f, sym (w.from_there low onward) ∙ lowest_has left some w.word)
 
-      pub rowing_next : {o'' : Bytes} {b : Pen} {y g : ℕ} → Penned o' a (bytes_of (Membership y g)) o'' b → y ≡ x → g ≡ low
+      pub rowing_next : {o'' : Bytes} {b : Pen} {y g : ℕ} → Penned o' a (bytes_of (Some (Membership y g))) o'' b → y ≡ x → g ≡ low
           → Rowing o pen (bit_and left (2 ^ 64 - 1 - (1 * 2 ^ low) % 2 ^ 64)) o'' b
       rowing_next q object group =
           record {

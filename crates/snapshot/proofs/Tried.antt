@@ -27,8 +27,9 @@ use Rattle.soundness.specs.Faults.{littered, harmless}
 use Rattle.soundness.proofs.Keeping.{founding_sound}
 use Rattle.soundness.proofs.Tested.{sound_tested}
 use Rattle.soundness.proofs.Refuted.{computed_faults}
-use Rattle.snapshot.specs.declared.Status.TheVariants.{Done, Damaged, Short}
-use Rattle.snapshot.specs.declared.Loaded.{Loaded}
+use Rattle.std.specs.Prelude.{Result, Ok, Err}
+use Rattle.snapshot.specs.declared.CardError.{CardError}
+use Rattle.snapshot.specs.declared.CardError.TheVariants.{Damaged, Short}
 use Rattle.snapshot.specs.Card.{file_of, record_of, known, object_at, membership_at, appointed_at, granted_at, from, in_order, Same, Zeroed}
 use Rattle.snapshot.specs.Answers.{code_of, FileOf, Reads, Returned}
 use Rattle.snapshot.specs.Trials.{founding_card, founding_records, club, club_cleared, club_card, sort_left, appointment_left, rule_left}
@@ -186,24 +187,24 @@ pub club_sound : Sound (view club)
 club_sound = sound_same (view club_cleared) (view club) club_same cleared_sound
 
 -- [02:2.7] "A sound sheet, written and read, comes back the same in those": whatever reader of these promises reads a policy's file takes it.
-read_back : {p kept : Policy} {card : Bytes} {r : Loaded} → FileOf p card → Reads kept card r → Returned p r
-read_back {p} f (Reads.taken c g q same) = record { done = c; same = same p f }
+read_back : {p : Policy} {card : Bytes} {r : Result Policy CardError} → FileOf p card → Reads card r → Returned p r
+read_back {p} f (Reads.taken q c g z same) = record { read = q; done = c; same = same p f }
 read_back {p} f (Reads.damaged none is) = absurd (none p f)
 
-pub founding_read : {kept : Policy} {r : Loaded} → Reads kept founding_card r → Returned initial r
+pub founding_read : {r : Result Policy CardError} → Reads founding_card r → Returned initial r
 founding_read = read_back (record { sized = sized_initial; sound = founding_sound; file = founding_card_is })
 
-pub club_read : {kept : Policy} {r : Loaded} → Reads kept club_card r → Returned club r
+pub club_read : {r : Result Policy CardError} → Reads club_card r → Returned club r
 club_read = read_back (record { sized = sized_club; sound = club_sound; file = club_card_is })
 
 -- ---- Codes
 
 -- [02:2.10] "Turned away: 13 damaged, ..; then 14 short card": and 0 for what is done.
-pub done_code : code_of Done ≡ 0
-done_code = refl
+pub done_code : {A : Type 0} (x : A) → code_of (Ok x) ≡ 0
+done_code x = refl
 
-pub damaged_code : code_of Damaged ≡ 13
-damaged_code = refl
+pub damaged_code : (A : Type 0) → code_of {A = A} (Err Damaged) ≡ 13
+damaged_code A = refl
 
-pub short_code : code_of Short ≡ 14
-short_code = refl
+pub short_code : (A : Type 0) → code_of {A = A} (Err Short) ≡ 14
+short_code A = refl

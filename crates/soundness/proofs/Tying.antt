@@ -1,14 +1,17 @@
 -- Tables from their places, and soundness from the tests of the tables, where the masks are the policy's.
 -- Past the end of a table there is nothing to ask; and in the masks of a policy are just its objects of each sort.
-use mathlib.Core.Path.{◌≡◌, refl, sym, ◌∙◌, subst}
+use mathlib.Core.Path.{◌≡◌, refl, sym, ap, ◌∙◌, subst}
 use mathlib.Core.Bool.{Bool, true, false, not, ◌&&◌, true≢false, false≢true}
-use mathlib.Core.Logic.{⊎_elim}
 use mathlib.Core.List.{List}
-use Prim.Native.Nat.{ℕ, ◌+◌, ◌≤◌, ◌<◌}
+use Prim.Native.Nat.{ℕ, ◌≤◌, ◌<◌}
 use native.Mathlib.Nat.{not-suc-le-zero}
 use native.Mathlib.Decide.{dec_lt}
 use native.Mathlib.Omega.{arith}
 use lib.Dec.{leb}
+use Rattle.std.specs.Prelude.{MatchBool}
+use Rattle.std.specs.List.{AllWithin, HoldsAt, zip, range_with_len}
+use Rattle.std.proofs.lemmas.List.FromFn.{length-range_with_len, get_or-range_with_len}
+use Rattle.std.proofs.lemmas.Slice.Zip.{length-zip, get_or-zip}
 use lib.ListN.{length, get_or}
 use borrow.Author.Tests.{leb-true}
 use Rattle.reach.specs.declared.Policy.{Policy}
@@ -18,8 +21,8 @@ use Rattle.reach.specs.Tables.{Sized, view, counted, stored, appointment, rule, 
 use Rattle.reach.specs.Privileges.{orphaned}
 use Rattle.reach.specs.Surveys.{MasksOf}
 use Rattle.reach.proofs.Lists.{get_d_past}
-use Rattle.reach.proofs.Testing.{decides_as, decides_and}
-use Rattle.reach.proofs.WordSets.{decides_has, below_next}
+use Rattle.reach.proofs.Testing.{decides_as, decides_and, refuted}
+use Rattle.reach.proofs.WordSets.{decides_has}
 use Rattle.reach.proofs.Sorts.{counted_known}
 use Rattle.rules.specs.Allowing.{Owned}
 use Rattle.rules.proofs.Giving.{orphaned_passes}
@@ -29,16 +32,37 @@ use Rattle.soundness.proofs.Fitting.{always, never, row_none}
 
 -- ---- Tables from their places
 
--- Nothing is asked before the first place, and each place adds its own answer.
-pub every_none : (P : ℕ → Type 0) → Every 0 P
-every_none P i l = absurd (not-suc-le-zero l)
+-- What `all` answers of a table, said of its places.
+pub decides_every : {A : Type 0} (P : A → Type 0) (l : List A) (d : A) (r : Bool) {n : ℕ} → length l ≡ n
+    → MatchBool r (AllWithin P l 0 (length l)) ((k : ℕ) × (k < length l) × HoldsAt (λ x. P x → ⊥) l k)
+    → Decides r (Every n (λ i. P (get_or l i d)))
+decides_every P l d true e f = always (λ i h. f i d (omega arith) (omega (arith, e)))
+decides_every P l d false e f = never (λ g. f.2 d (g f.0 (omega (arith, e, f.1))))
 
-pub every_add : (P : ℕ → Type 0) (n : ℕ) → Every n P → P n → Every (n + 1) P
-every_add P n e q i l = ⊎_elim (λ z. subst P (sym z) q) (λ z. e i z) (below_next i n l)
+-- The same with the number of each place.
+pub decides_numbered : {A : Type 0} (P : ℕ → A → Type 0) (n : ℕ) (l : List A) (d : A) (r : Bool) → length l ≡ n
+    → MatchBool r (AllWithin (λ p. P p.0 p.1) (zip (range_with_len 0 n) l) 0 (length (zip (range_with_len 0 n) l)))
+    ((k : ℕ) × (k < length (zip (range_with_len 0 n) l)) × HoldsAt (λ p. P p.0 p.1 → ⊥) (zip (range_with_len 0 n) l) k)
+    → Decides r (Every n (λ i. P i (get_or l i d)))
+decides_numbered {A} P n l d r e f = decides_as (decides_every (λ p. P p.0 p.1) numbered (0, d) r long f) (λ g i h. rw (place i h) at (g i h)) (λ g i h. rw (place i h) (g i h))
+  where
+    numbered : List (ℕ × A)
+    numbered = zip (range_with_len 0 n) l
 
--- Every place of a table, where the loop has ended.
-pub every_end : {P : ℕ → Type 0} (k n : ℕ) → Every n P → k ≤ n → Every k P
-every_end k n f h i l = f i (omega arith)
+    long : length numbered ≡ n
+    long = length-zip (range_with_len 0 n) l ∙ omega (arith, length-range_with_len 0 n, e)
+
+    place : (i : ℕ) → i < n → get_or numbered i (0, d) ≡ (i, get_or l i d)
+    place i h =
+        get_or-zip (range_with_len 0 n) l i (0, d) (omega (arith, length-range_with_len 0 n)) (omega (arith, e))
+        ∙ ap (λ (k : ℕ). (k, get_or l i d)) (get_or-range_with_len 0 n i 0 h ∙ omega arith)
+
+-- What one answer of a test says.
+pub holds : {P : Type 0} → Decides true P → P
+holds d = d.sound refl
+
+pub fails : {P : Type 0} → Decides false P → P → ⊥
+fails d = refuted d refl
 
 -- What holds of every place of a table, and of an empty place, holds at every number.
 every_number : {A : Type 0} (P : ℕ → A → Type 0) (l : List A) (d : A) (n : ℕ) → length l ≡ n → ((i : ℕ) → P i d)

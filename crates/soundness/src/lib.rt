@@ -9,6 +9,8 @@ ghost use Rattle.soundness.specs.Masked.{RowIn, RowsIn, AppointmentIn, Appointme
 
 use reach::{AccessRule, Appointment, Masks, Policy, has};
 
+// The tests below take the masks as a parameter and are no methods of them: `Masks` is a type of reach, and a type around it would say no more.
+
 // Whether all that x is stored as directly in is a group, and x in use if anything is stored.
 fn row_fits(row: u64, m: Masks, x: u8) -> bool
     ensures { Decides result (RowIn m row x) }
@@ -26,14 +28,9 @@ fn row_fits(row: u64, m: Masks, x: u8) -> bool
 fn memberships_fit(memberships: &[u64; 64], m: Masks) -> bool
     ensures { Decides result (RowsIn m memberships.now) }
 {
-    let mut x: u8 = 0;
-    while x < 64 {
-        if !row_fits(memberships[x as usize], m, x) {
-            return false;
-        }
-        x += 1;
-    }
-    true
+    (0u8..64)
+        .zip(memberships)
+        .all(|(x, row)| row_fits(*row, m, x))
 }
 
 // Whether an appointment, if it stands, has a user for its holder and groups where it should, and 0 for a B that is not read.
@@ -50,17 +47,10 @@ fn appointment_fits(w: Appointment, m: Masks) -> bool
 }
 
 // Whether every appointment that stands does.
-fn appointments_fit(appointments: [Appointment; 32], m: Masks) -> bool
-    ensures { Decides result (AppointmentsIn m appointments) }
+fn appointments_fit(appointments: &[Appointment; 32], m: Masks) -> bool
+    ensures { Decides result (AppointmentsIn m appointments.now) }
 {
-    let mut i: usize = 0;
-    while i < 32 {
-        if !appointment_fits(appointments[i], m) {
-            return false;
-        }
-        i += 1;
-    }
-    true
+    appointments.iter().all(|w| appointment_fits(*w, m))
 }
 
 // Whether a rule, if it is in use, has two groups and some operation.
@@ -74,17 +64,10 @@ fn rule_fits(r: AccessRule, m: Masks) -> bool
 }
 
 // Whether every rule in use does.
-fn rules_fit(rules: [AccessRule; 64], m: Masks) -> bool
-    ensures { Decides result (RulesIn m rules) }
+fn rules_fit(rules: &[AccessRule; 64], m: Masks) -> bool
+    ensures { Decides result (RulesIn m rules.now) }
 {
-    let mut i: usize = 0;
-    while i < 64 {
-        if !rule_fits(rules[i], m) {
-            return false;
-        }
-        i += 1;
-    }
-    true
+    rules.iter().all(|r| rule_fits(*r, m))
 }
 
 // Whether the policy is sound.
@@ -93,8 +76,8 @@ pub fn is_sound(p: Policy) -> bool
 {
     let m = p.masks();
     let memberships = memberships_fit(&p.memberships, m);
-    let appointments = appointments_fit(p.appointments, m);
-    let rules = rules_fit(p.rules, m);
+    let appointments = appointments_fit(&p.appointments, m);
+    let rules = rules_fit(&p.rules, m);
     let owners = !p.orphaned();
     memberships & appointments & rules & owners
 }

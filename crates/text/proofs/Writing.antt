@@ -7,10 +7,11 @@ use Prim.Native.Nat.{ℕ, ◌+◌, ◌-◌, ◌≤◌, ◌<◌, min, zero-le}
 use native.Mathlib.Nat.{le_refl}
 use native.Mathlib.Numerals.{add-one}
 use native.Mathlib.Omega.{arith}
-use lib.ListN.{length, get_or, take, drop, set, length-set, length-take, length-append, length-drop, take-append-drop, drop_of_length-le}
+use lib.ListN.{length, take, drop, set, length-set, length-take, length-append, length-drop, take-append-drop, drop_of_length-le}
 use lib.Dec.{leb}
 use borrow.Author.Tests.{leb-true, leb-false}
-use lib.Seq.{take_all, take-nil, take-append-le, take-suc, take-suc-set, take-append_seam, drop-set-lt, drop-drop}
+use lib.Seq.{take_all, take-nil, take-append-le, take-suc-set, take-append_seam, take-append-add, drop-set-lt, drop-drop, take_at, drop_at}
+use Rattle.std.proofs.lemmas.List.{take_min}
 use Rattle.text.specs.Text.{Bytes, Holds, Wrote, Printed}
 
 -- As many bytes stand in the buffer as the text has, or as there is room for.
@@ -103,23 +104,52 @@ pub wrote_sign : {a v b c : Bytes} {n m r byte : ℕ} (sign : ℕ) → Wrote a n
     → Wrote a n (v ++ (sign ∷ [])) c r
 wrote_sign sign p q e = wrote_then p (rw e at q)
 
--- A text of which the first i bytes are written, and then the next one.
-pub record Putting (text a : Bytes) (n : ℕ) (b : Bytes) (m i : ℕ) : Type 0 where
-  pub within : i ≤ length text
-  pub wrote : Wrote a n (take i text) b m
+-- As much of a text as there is room for, in the place of so many bytes of the buffer.
+module _ (a w : Bytes) (n k : ℕ) (low : n < length a) (many : k ≡ min (length w) (length a - n)) where
+  abbrev pub filled : Bytes
+  filled = take n a ++ (take k w ++ drop k (drop n a))
 
-pub putting_start : (text a : Bytes) (n : ℕ) → Putting text a n a n 0
-putting_start text a n = record { within = zero-le; wrote = wrote_none a n }
+  front : length (take n a) ≡ n
+  front = simp length-take (omega arith)
 
-pub putting_step : {text a b c : Bytes} {n m r i : ℕ} → Putting text a n b m i → i < length text
-    → Wrote b m (get_or text i 0 ∷ []) c r → Putting text a n c r (i + 1)
-putting_step {text} {i = i} p low q = record {
-  within = omega arith;
-  wrote = rw add-one (wrote_as (sym (take-suc text i 0 low)) (wrote_then p.wrote q));
-}
+  both : length (take n a ++ take k w) ≡ n + k
+  both = simp (length-append, length-take) (omega arith)
 
-pub putting_end : {text a b : Bytes} {n m i : ℕ} → Putting text a n b m i → length text ≤ i → Wrote a n text b m
-putting_end {text} {i = i} p h = wrote_as (take_all i text h) p.wrote
+  filled_length : length filled ≡ length a
+  filled_length = simp (length-append, length-take, length-drop) (omega arith)
+
+  -- More of the text than that has no room.
+  room_for : take (length a - n) w ≡ take k w
+  room_for =
+      let e : min (length a - n) (length w) ≡ k = omega arith in
+      sym (take_min (length a - n) w) ∙ ap (λ (i : ℕ). take i w) e
+
+  pub wrote_part : Wrote a n w filled (n + k)
+  wrote_part = record {
+    length_kept = filled_length;
+    extends = extended;
+    onward = omega arith;
+    nothing_past = λ past. absurd (omega arith);
+    rest_kept =
+        ap (drop (n + k)) (sym (append_assoc (take n a) (take k w) (drop k (drop n a))))
+        ∙ drop_at (take n a ++ take k w) (drop k (drop n a)) (n + k) both
+        ∙ drop-drop k n a;
+  }
+    where
+      extended : (text : Bytes) → Holds a n text → Holds filled (n + k) (text ++ w)
+      extended text h =
+          let count : length text ≡ n = omega (arith, held_length h) in
+          let whole : take n a ≡ text = holds_whole h (omega arith) in
+          let rest : length a ≡ length text + (length a - n) = omega arith in
+          record {
+            within = rw filled_length (omega arith);
+            same =
+                ap (take (n + k)) (sym (append_assoc (take n a) (take k w) (drop k (drop n a))))
+                ∙ take_at (take n a ++ take k w) (drop k (drop n a)) (n + k) both
+                ∙ ap₂ ◌++◌ whole (sym room_for)
+                ∙ sym (take-append-add text w (length a - n))
+                ∙ ap (λ (m : ℕ). take m (text ++ w)) (sym (filled_length ∙ rest));
+          }
 
 -- What is written from the start of the buffer stands there, and the rest is as it was. Either all of the text is there, or the buffer is
 -- full and nothing of the rest is left.

@@ -15,8 +15,8 @@ returns c =
     card_read _ _ _ _ _ _
     c.if-policy-ne960.false
     (omega (arith, c.if-answer-lt961.false))
-    c.policy_of.ensures
-    c.read_card-loaded.ensures.reads
-    c.read_card-loaded.ensures.demand3
+    c.read_card-read.ensures.reads
+    c.read_card-read.ensures.demand3
+    (rw c.policy_of.ensures at c.unwrap_or.ensures)
     c.put_policy.ensures
-    c.status_code.ensures
+    c.card_code-code.ensures

@@ -12,9 +12,10 @@ returns-then-code-lt1 c = no_code_written _ _ _ c.if-policy-ne960.false (omega (
 
 pub returns : goal.returns
 returns c =
-    card_written _ _ _ _ _ _
+    card_written _ _ _ _ _ _ _
     c.if-policy-ne960.false
     (omega (arith, c.if-code-lt1.false))
     c.policy_of.ensures
     c.write_card-written.ensures
-    c.status_code.ensures
+    c.card_code.ensures
+    c.unwrap_or.ensures

@@ -1,38 +1,54 @@
--- `report` prints the lines of the records: each record adds its line, and a torn place or the end closes them.
-use Rattle.std.proofs.Common.{rules, arith, ◌<◌, ◌^◌, length, sym}
-use Rattle.frame.proofs.Steps.{step_record}
+-- `report` prints the lines of the records: each record, and a torn place, adds its line.
+use mathlib.Core.Path.{◌≡◌, ap, ◌∙◌}
+use mathlib.Core.Logic.{inl}
+use mathlib.Core.List.{◌∷◌}
+use Prim.Native.Nat.{◌<◌, ◌^◌}
+use native.Mathlib.Omega.{arith}
+use lib.ListN.{length}
+use Rattle.std.proofs.Common.{rules}
+use Rattle.frame.specs.Reading.{item, left, items_from}
+use Rattle.frame.proofs.Giving.{steps_items, steps_few}
 use Rattle.queue_run.proofs.Reporting.{reporting_start, reporting_record, reporting_torn, reporting_end}
 use Rattle.queue_run.proofs.report.Goals as goal
 
-pub loop-start-init : goal.loop-start-init
-loop-start-init c = reporting_start _ _ c.founded-club.ensures (omega arith)
-
-pub slice_bounds-taken_in-count : goal.slice_bounds-taken_in-count
-slice_bounds-taken_in-count c = omega (arith, step_record _ _ _ _ _ (sym c.in-Record.ensures))
-
-pub slice_bounds-taken_in-start : goal.slice_bounds-taken_in-start
-slice_bounds-taken_in-start c = omega (arith, step_record _ _ _ _ _ (sym c.in-Record.ensures))
-
-pub slice_bounds-taken_in-end : goal.slice_bounds-taken_in-end
-slice_bounds-taken_in-end c = omega (arith, step_record _ _ _ _ _ (sym c.in-Record.ensures))
-
--- The input is a slice, and no longer than a slice can be.
-pub overflow_add-index : goal.overflow_add-index
-overflow_add-index c =
+-- The reader gives no more than there are bytes, so each item has an index.
+pub loop-index-init : goal.loop-index-init
+loop-index-init c =
+    let into = c.into_iter-index-iterator.ensures.into_iter_gives in
+    let numbered = c.enumerate-index-items.ensures in
+    let from : left c.into_iter-index-iterator.result.iter ≡ items_from c.args.input.now 0 =
+    ap (λ s. left s.iter) into ∙ ap left numbered.source ∙ ap left c.new.ensures in
+    let zero : c.into_iter-index-iterator.result.count ≡ 0 = ap (λ s. s.count) into ∙ numbered.count in
     let short : length c.args.input.now < 2 ^ 64 = search rules in
-    omega (arith, short, step_record _ _ _ _ _ (sym c.in-Record.ensures), c.loop-start.invariant.index_low)
+    record {
+      can = (tt, tt, inl (rw (zero, from) (omega (arith, short, steps_items c.args.input.now, steps_few c.args.input.now))));
+      ends = tt;
+      reporting = reporting_start _ _ c.founded-club.ensures from zero;
+    }
 
-pub loop-start-smaller : goal.loop-start-smaller
-loop-start-smaller c = omega (arith, step_record _ _ _ _ _ (sym c.in-Record.ensures))
+pub loop-index-preserved-in-Ok : goal.loop-index-preserved-in-Ok
+loop-index-preserved-in-Ok c =
+    let steps = c.in-Some.ensures.steps in
+    record {
+      can = c.in-Some.ensures.goes.keeps;
+      ends = tt;
+      reporting =
+          reporting_record _ _ c.loop-index.invariant.reporting steps.2
+          (steps.0.first ∙ ap (λ r. item r ∷ left c.next.new.self.iter) c.in-Ok.is) c.taken_in-told.ensures
+          (rw steps.1 at c.put_told-written.ensures);
+    }
 
-pub loop-start-preserved : goal.loop-start-preserved
-loop-start-preserved c =
-    reporting_record _ _ c.loop-start.invariant c.taken_in-told.result (sym c.in-Record.ensures) c.taken_in-told.ensures
-    c.put_told-n.ensures
+pub loop-index-preserved : goal.loop-index-preserved
+loop-index-preserved c =
+    let steps = c.in-Some.ensures.steps in
+    record {
+      can = c.in-Some.ensures.goes.keeps;
+      ends = tt;
+      reporting =
+          reporting_torn _ _ c.loop-index.invariant.reporting steps.2
+          (steps.0.first ∙ ap (λ r. item r ∷ left c.next.new.self.iter) c.in-Err.is)
+          (rw steps.1 at c.put_line-written.ensures);
+    }
 
-pub returns-in-Torn : goal.returns-in-Torn
-returns-in-Torn c =
-    reporting_torn _ _ c.loop-start.invariant (sym c.in-Torn.ensures) c.put_line.ensures (omega arith) (omega arith)
-
-pub returns-in-End : goal.returns-in-End
-returns-in-End c = reporting_end _ _ c.loop-start.invariant (sym c.in-End.ensures)
+pub returns : goal.returns
+returns c = reporting_end _ _ c.loop-index.invariant.reporting c.in-None.ensures.steps.0.first.0

@@ -1,21 +1,15 @@
-use native.Mathlib.Omega.{arith}
-use Rattle.reach.proofs.Testing.{refuted}
-use Rattle.soundness.proofs.Fitting.{always, never}
-use Rattle.soundness.proofs.Tying.{every_none, every_add, every_end}
-use Rattle.std.proofs.Common.{rules}
+-- `all` answers of every row what `row_fits` decides of one.
+use Rattle.std.proofs.Common.{rules, refl}
+use Rattle.std.proofs.lemmas.Iterator.{cases_from_all, YieldsList-from_slice, YieldsList-from_zip, YieldsList-from_range}
+use Rattle.soundness.specs.Masked.{RowIn}
+use Rattle.soundness.proofs.Tying.{decides_numbered, holds, fails}
 use Rattle.soundness.proofs.memberships_fit.Goals as goal
 
-pub loop-x-init : goal.loop-x-init
-loop-x-init c = (search rules, every_none _)
-
-pub returns-then-not-row_fits : goal.returns-then-not-row_fits
-returns-then-not-row_fits c = never (λ f. refuted c.row_fits.ensures c.if-not-row_fits.true (f _ (search rules)))
-
-pub loop-x-preserved : goal.loop-x-preserved
-loop-x-preserved c = (
-  search rules,
-  every_add _ _ c.loop-x.invariant.1 (c.row_fits.ensures.sound c.if-not-row_fits.false),
-)
-
 pub returns : goal.returns
-returns c = always (every_end _ _ c.loop-x.invariant.1 (omega (arith, c.loop-x-test.false)))
+returns c =
+    let m = c.args.m in
+    decides_numbered (λ x row. RowIn m row x) 64 c.args.memberships.now 0 _ (search rules)
+    (cases_from_all c.all.new.self _ _ (λ p. RowIn m p.1 p.0) (λ p. RowIn m p.1 p.0 → ⊥) c.all.ensures.ran
+    (YieldsList-from_zip (YieldsList-from_range 0 64 64 (cc) refl) (YieldsList-from_slice c.args.memberships.now (cc)))
+    (λ x q k. search (rules, holds))
+    (λ x q k. search (rules, fails)))

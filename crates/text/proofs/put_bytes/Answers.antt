@@ -1,15 +1,10 @@
-use Rattle.text.proofs.Writing.{putting_start, putting_step, putting_end}
+-- `put_bytes` copies as much of the text as there is room for, and a buffer that is full stays as it is.
+use Rattle.std.proofs.Common.{◌≡◌, ◌+◌, ◌-◌, arith}
+use Rattle.text.proofs.Writing.{wrote_part}
 use Rattle.text.proofs.put_bytes.Goals as goal
 
-pub loop-i-init : goal.loop-i-init
-loop-i-init c = putting_start _ _ _
-
-pub loop-i-preserved : goal.loop-i-preserved
-loop-i-preserved c =
-    putting_step c.loop-i.invariant c.loop-i-test.true c.put_byte-at.ensures
-
-pub shape_of-out : goal.shape_of-out
-shape_of-out c = c.loop-i.invariant.wrote.length_kept
-
 pub returns : goal.returns
-returns c = putting_end c.loop-i.invariant c.loop-i-test.false
+returns c =
+    let n = c.args.n in
+    let count : (n + c.min-count.result) - n ≡ c.min-count.result = omega arith in
+    rw (count, c.copy_from_slice.ensures.after) (wrote_part _ _ _ _ c.if-out-n.false c.min-count.ensures)

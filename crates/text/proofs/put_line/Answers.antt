@@ -8,10 +8,6 @@ use Rattle.text.proofs.put_line.Goals as goal
 pub returns : goal.returns
 unfolding line
 returns c =
-    let space-2 = c in
-    let code = space-2 in
-    let space = code in
-    let index = space in
-    let indexed = wrote_sign 32 index.put_number-after_index.ensures space.put_byte-at_code.ensures (omega arith) in
-    let coded = wrote_sign 32 (wrote_then indexed code.put_small-after_code.ensures) space-2.put_byte-at_cited.ensures (omega arith) in
+    let indexed = wrote_sign 32 c.put_number-after_index.ensures c.put_byte-at_code.ensures (omega arith) in
+    let coded = wrote_sign 32 (wrote_then indexed c.put_small-after_code.ensures) c.put_byte-at_cited.ensures (omega arith) in
     wrote_sign 10 (wrote_then coded c.put_small-after_cited.ensures) c.put_byte.ensures (omega arith)

@@ -1,24 +1,19 @@
--- `load_and_judge` reads the card and judges from the policy that the reader answers: the parts one after the other (`loads_all`). A full
--- buffer for the input is past the limit.
-use Rattle.std.proofs.Common.{rules, ◌≡◌, ◌<◌, length}
+-- `load_and_judge` reads the card and judges from the policy that it gives: the parts one after the other (`loads_all`).
+use Rattle.std.proofs.Common.{rules, ◌≡◌, length}
 use Rattle.card.proofs.Loading.{loads_all, loads_full}
-use Rattle.card.proofs.Showing.{part_read, full_long}
+use Rattle.card.proofs.Showing.{long_input}
 use Rattle.card.proofs.texts.load_and_judge.Goals as goal
 
 loads : goal.returns-clause-loads
 loads c =
     let room : length c.args.head.now ≡ 4 = search rules in
     let room-text : length c.args.text.now ≡ 212992 = search rules in
-    let told = c.read_card-loaded.ensures in
-    let reads = rw (part_read _ _ c.least-size.ensures) at told.reads in
-    let printed = rw (part_read _ _ c.least-end.ensures) at c.output_from-told.ensures in
-    let first = c.initial-founding.ensures in
-    loads_all _ reads told.demand3 room c.put_code-said.ensures room-text printed (rw first)
+    let read = c.read_card-read.ensures in
+    loads_all _ read.reads read.demand3 room c.card_code.ensures c.put_code-said.ensures c.initial-founding.ensures c.unwrap_or-policy.ensures
+    room-text c.output_from.ensures
 
 pub returns-clause-loads : goal.returns-clause-loads
 returns-clause-loads c = loads c
 
 pub returns-clause-shows : goal.returns-clause-shows
-returns-clause-shows c =
-    let past : 65536 < length c.args.input.now = search rules in
-    λ full. loads_full (loads c) (full_long _ _ past full)
+returns-clause-shows c = λ long. loads_full (loads c) (long_input _ long)

@@ -1,14 +1,11 @@
 use native.Mathlib.Omega.{arith}
 use Rattle.snapshot.proofs.Rowing.{rest_less, lowest_low, rowing_start}
-use Rattle.snapshot.proofs.Rowing.{rowing_needed, rowing_length, rowing_next, rowing_end}
+use Rattle.snapshot.proofs.Rowing.{rowing_length, rowing_next, rowing_end}
 use Rattle.std.proofs.Common.{rules}
 use Rattle.snapshot.proofs.writing.pen_row.Goals as goal
 
 pub loop-left-init : goal.loop-left-init
-loop-left-init c = rowing_start _ _ _ _ (search rules)
-
-pub pen_entry-so_far-requires : goal.pen_entry-so_far-requires
-pen_entry-so_far-requires c = let few = rowing_needed _ _ c.loop-left.invariant in omega (arith, few, c.requires)
+loop-left-init c = rowing_start _ _ _ _ (search rules) (search rules)
 
 pub overflow_cast-left : goal.overflow_cast-left
 overflow_cast-left c = search (rules, lowest_low _ c.loop-left-test.true c.loop-left.invariant.word)
