@@ -2,11 +2,10 @@
 -- room for it, and the picture of the policy after it is 960 bytes.
 use mathlib.Core.Path.{◌≡◌, sym, ap, ◌∙◌}
 use mathlib.Core.Bool.{Bool, true, false}
-use mathlib.Core.List.{List}
+use mathlib.Core.List.{List, ◌++◌}
 use Prim.Native.Nat.{◌≤◌, ◌<◌}
 use lib.Dec.{leb}
-use lib.ListN.{length}
-use lib.Seq.{sets}
+use lib.ListN.{length, drop}
 use borrow.Author.Tests.{le-leb, lt-leb}
 use Rattle.reach.specs.declared.Policy.{Policy}
 use Rattle.reach.specs.Tests.{◌⇒◌∥◌}
@@ -19,7 +18,6 @@ use Rattle.list.specs.Filling.{room, RunInto}
 use Rattle.list.proofs.Positions.{run_sized}
 use Rattle.export.specs.Picture.{picture_of}
 use Rattle.export.specs.Listed.{Listed}
-use Rattle.export.proofs.Storing.{sets_front}
 use Rattle.export.proofs.Picturing.{picture_length}
 
 -- An outcome says whether there was room.
@@ -44,19 +42,19 @@ module _ (list : List Bytes) (codes cited policy : Bytes) where
     roomy = ran_of_room (room list codes cited) (run initial list) initial s.outcome
 
     -- No room for the codes, or for the cited rules.
-    pub not_run : r.ran ≡ false → Listed list codes cited policy codes' cited' policy 0
-    not_run e =
+    pub not_run : {policy' : Bytes} → r.ran ≡ false → policy' ≡ policy → Listed list codes cited policy codes' cited' policy' 0
+    not_run e same =
         let none : room list codes cited ≡ false = roomy ∙ e in
         record {
           codes_written = rw long s.codes_written;
           cited_written = rw long s.cited_written;
-          policy_written = rw (long, none);
+          policy_written = rw (long, none, same);
           count = rw (long, none);
         }
 
     -- Room for all.
-    pub has_run : {policy' : Bytes} → r.ran ≡ true → policy' ≡ sets policy 0 (picture_of r.policy)
-        → Listed list codes cited policy codes' cited' policy' 960
+    pub has_run : {picture : Bytes} → r.ran ≡ true → picture ≡ picture_of r.policy
+        → Listed list codes cited policy codes' cited' (picture ++ drop 960 policy) 960
     has_run e d =
         let all : room list codes cited ≡ true = roomy ∙ e in
         let last : r.policy ≡ run initial list = ap (λ (o : Outcome). o.policy) (rw all at s.outcome) in
@@ -65,6 +63,6 @@ module _ (list : List Bytes) (codes cited policy : Bytes) where
         record {
           codes_written = rw long s.codes_written;
           cited_written = rw long s.cited_written;
-          policy_written = rw (long, all, d, last) (sets_front policy (picture_of (run initial list)) (rw whole h));
+          policy_written = rw (long, all, d, last, whole);
           count = rw (long, all);
         }
