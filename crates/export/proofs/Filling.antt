@@ -39,13 +39,11 @@ module _ (list : List Bytes) (codes cited policy : Bytes) where
       record { codes_written = rw short; cited_written = rw short; policy_written = rw short; count = rw short }
 
   module _ {codes' cited' : Bytes} (h : 960 ≤ length policy) where
-    long : leb 960 (length policy) ≡ true
-    long = le-leb 960 (length policy) h
-
     -- No room for the codes, or for the cited rules.
     pub not_run : {r : Option Policy} → r ≡ None → RunInto initial list codes cited codes' cited' r
         → Listed list codes cited policy codes' cited' policy 0
     not_run e s =
+        let long : leb 960 (length policy) ≡ true = le-leb 960 (length policy) h in
         let none : room list codes cited ≡ false = no_room _ _ (sym e ∙ s.outcome) in
         record {
           codes_written = rw long s.codes_written;
@@ -59,6 +57,7 @@ module _ (list : List Bytes) (codes cited policy : Bytes) where
         → policy' ≡ sets policy 0 (picture_of q)
         → Listed list codes cited policy codes' cited' policy' 960
     has_run {q = q} e s d =
+        let long : leb 960 (length policy) ≡ true = le-leb 960 (length policy) h in
         let ran = had_room (room list codes cited) (run initial list) (sym e ∙ s.outcome) in
         let all : room list codes cited ≡ true = ran.0 in
         let last : q ≡ run initial list = ran.1 in
