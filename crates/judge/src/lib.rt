@@ -49,10 +49,10 @@ fn formed(p: &Policy, bytes: &[u8], u: u8, q: Request) -> Result<(), Refusal>
 }
 
 // Checks 10 to 12, after those before: what the request would give, and what it would leave without an owner. Of each kind those are asked
-// that it can fail, so that the policy is handed on to no others. Who appoints another gains nothing, and of a PUT nothing is left to ask.
+// that it can fail, and of a PUT nothing is left to ask.
 #[tactic(auto, unfolding(rules::specs::Refusals::own_gain, rules::specs::Refusals::hand_over, rules::specs::Refusals::orphan))]
-fn harmless(p: Policy, u: u8, q: Request) -> Result<(), Refusal>
-    ensures { result ≡ harmless_by p u q }
+fn harmless(p: &Policy, u: u8, q: Request) -> Result<(), Refusal>
+    ensures { result ≡ harmless_by p.now u q }
 {
     match q {
         Request::Appoint {
@@ -63,7 +63,7 @@ fn harmless(p: Policy, u: u8, q: Request) -> Result<(), Refusal>
             b,
         } => {
             let w = Appointment { kind, holder, a, b };
-            Refusal::OwnGain.if_so((holder == u) && appoint_gains(p, u, place, w))
+            Refusal::OwnGain.if_so(appoint_gains(*p, u, place, w))
         }
         Request::Grant {
             place,
@@ -77,19 +77,19 @@ fn harmless(p: Policy, u: u8, q: Request) -> Result<(), Refusal>
                 targets,
                 operations,
             };
-            Refusal::OwnGain.if_so(grant_gains(p, u, place, rule))
+            Refusal::OwnGain.if_so(grant_gains(*p, u, place, rule))
         }
-        Request::Take { object, group } => Refusal::Orphan.if_so(take_orphans(&p, object, group)),
-        Request::Dismiss { place } => Refusal::Orphan.if_so(dismiss_orphans(&p, place)),
+        Request::Take { object, group } => Refusal::Orphan.if_so(take_orphans(p, object, group)),
+        Request::Dismiss { place } => Refusal::Orphan.if_so(dismiss_orphans(p, place)),
         _ => Ok(()),
     }
 }
 
 // The verdict on a record of that sender and request: the checks in their order, in three stages.
-fn verdict_on(p: Policy, bytes: &[u8], u: u8, q: Request) -> Verdict
-    ensures { result ≡ verdict_on p bytes.now u q }
+fn verdict_on(p: &Policy, bytes: &[u8], u: u8, q: Request) -> Verdict
+    ensures { result ≡ verdict_on p.now bytes.now u q }
 {
-    formed(&p, bytes, u, q)?;
+    formed(p, bytes, u, q)?;
     let by = allowed(p, u, q)?;
     harmless(p, u, q)?;
     Ok(by)
@@ -106,7 +106,7 @@ pub fn decide(p: Policy, bytes: &[u8]) -> Decision
     Decision {
         sender,
         request,
-        verdict: verdict_on(p, bytes, sender, request),
+        verdict: verdict_on(&p, bytes, sender, request),
     }
 }
 
