@@ -41,31 +41,18 @@ impl Queue {
         &self.waiting[..usize::from(self.count.min(8))]
     }
 
-    // Whether the radio is held, by a record with nothing wrong in it: one test after the other, each of which the ones behind it may count
-    // on.
+    // Whether the radio is held, by a record with nothing wrong in it.
     fn is_held(self) -> bool
         ensures { result ≡ is_held self }
     {
-        if self.held != 1 {
-            return false;
-        }
-        if self.count > 8 {
-            return false;
-        }
-        if self.left < 1 {
-            return false;
-        }
-        if self.left > counted(self.turn) {
-            return false;
-        }
-        if self.holder >= 64 {
-            return false;
-        }
         let waiters = self.waiters();
-        if waiters.contains(&self.holder) {
-            return false;
-        }
-        fits(waiters)
+        self.held == 1
+            && self.count <= 8
+            && 1 <= self.left
+            && self.left <= counted(self.turn)
+            && self.holder < 64
+            && !waiters.contains(&self.holder)
+            && fits(waiters)
     }
 
     // The radio free, and nobody waits.

@@ -18,6 +18,7 @@ use rules::Refusal;
 
 // The record of a waiting line. Any value is legal: one that says no sound line counts as an empty line with the radio
 // free.
+// The mark and the count are plain numbers, since any 16 bytes of C are one record (`bytes_of_queue`), and a malformed one stays as it was.
 #[derive(Clone, Copy)]
 pub struct Queue {
     // The radio, and N, the ticks of a turn as they were given; set at the start.
