@@ -15,10 +15,6 @@ use Rattle.export.specs.Told.{gain_fits, GainTold}
 use Rattle.export.proofs.Storing.{sets_front}
 
 module _ (picture bytes buffer : Bytes) where
-  untold : gain_fits picture buffer ≡ false → GainTold picture bytes buffer buffer 0
-  untold short =
-      record { gain = None; told = λ fits. absurd (true≢false (sym fits ∙ short)); written = rw short; count = rw short }
-
   module _ (p : Policy) (g : Option Permission) (is : (length picture ≡ 960) × (p ≡ policy_of picture)) (h : 2 ≤ length buffer)
       (s : OwnGainOf p bytes g) where
     fits : gain_fits picture buffer ≡ true
