@@ -7,7 +7,7 @@ ghost use Rattle.queue.specs.Stored.{after_join, after_leave, after_tick};
 ghost use Rattle.export.specs.Queued.{queue_from, queue_bytes, QueueStarted, QueueTold};
 
 use crate::reading::opened;
-use queue::{answer_code, Queue};
+use queue::{Queue, answer_code};
 use std::array;
 
 // The record of a picture.
