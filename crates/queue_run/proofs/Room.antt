@@ -16,7 +16,7 @@ use Rattle.frame.proofs.Records.{records_few}
 use Rattle.reach.specs.Tests.{◌⇒◌∥◌}
 use Rattle.rules.specs.Judging.{code_of, cited_of, judge}
 use Rattle.rules.proofs.Bounded.{code_bounded, cited_bounded}
-use Rattle.text.specs.Text.{Bytes, line, Printed}
+use Rattle.text.specs.Text.{Bytes, Printed}
 use Rattle.text.proofs.Decimals.{decimal_length}
 use Rattle.text.proofs.Lengths.{line_length}
 use Rattle.text.proofs.Writing.{printed_all}

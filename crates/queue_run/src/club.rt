@@ -10,7 +10,7 @@ use queue::{Queue, answer_code};
 use reach::Policy;
 use rules::{Refusal, Verdict};
 
-// The program's own kinds.
+// The program's own kinds: numbers, since a record may have any kind, and the match on it needs no enum between.
 const START: usize = 32;
 
 const JOIN: usize = 33;

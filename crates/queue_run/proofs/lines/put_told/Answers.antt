@@ -1,6 +1,5 @@
 -- `put_told` writes the line of an event after one, else that of the verdict: the two cases of `outcome_line`.
-use Rattle.std.proofs.Common.{refl, ap}
-use Rattle.queue_run.specs.Output.{told_line, outcome_line}
+use Rattle.queue_run.specs.Output.{told_line}
 use Rattle.queue_run.proofs.lines.put_told.Goals as goal
 
 pub returns-in-Event : goal.returns-in-Event
