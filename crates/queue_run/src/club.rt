@@ -1,6 +1,5 @@
 // What one record does: document 01's go to the judge, and the program's own kinds to the line at the radio.
 ghost use Rattle.std.specs.Prelude.{◌≡◌};
-ghost use Rattle.frame.specs.Fields.{little_endian};
 ghost use Rattle.queue_run.specs.Program.{founding, event_told, misfit_told, judged_told, told_of};
 ghost use Rattle.queue_run.specs.Program.{start_told, join_told, leave_told, tick_told};
 
@@ -8,7 +7,7 @@ use frame::{byte, kind_field};
 use judge::judge;
 use queue::{Queue, answer_code};
 use reach::Policy;
-use rules::{Refusal, Verdict};
+use rules::{Answer, Refusal, Verdict};
 
 // The program's own kinds: numbers, since a record may have any kind, and the match on it needs no enum between.
 const START: usize = 32;
@@ -54,9 +53,8 @@ pub fn founded() -> Club
 fn event(club: Club, queue: Queue, code: u8) -> Told
     ensures { result ≡ event_told club queue code }
 {
-    let policy = club.policy;
     Told {
-        club: Club { policy, queue },
+        club: Club { queue, ..club },
         outcome: Outcome::Event(code),
     }
 }
@@ -71,57 +69,48 @@ fn misfit(club: Club) -> Told
     }
 }
 
-// N, from its two bytes.
-fn turn_of(low: u8, high: u8) -> u16
-    ensures { result ≡ little_endian low high }
-{
-    u16::from_le_bytes([low, high])
-}
-
 // START: the line is set anew, at the gear and with the N of the record.
 fn started(club: Club, bytes: &[u8]) -> Told
     ensures { result ≡ start_told club bytes.now }
 {
-    let gear = byte(bytes, 4);
-    let turn = turn_of(byte(bytes, 5), byte(bytes, 6));
-    event(club, Queue::start(gear, turn), 0)
+    let turn = u16::from_le_bytes([byte(bytes, 5), byte(bytes, 6)]);
+    event(club, Queue::start(byte(bytes, 4), turn), 0)
 }
 
 // JOIN: the user of the record asks for the radio.
 fn joined(club: Club, bytes: &[u8]) -> Told
     ensures { result ≡ join_told club bytes.now }
 {
-    let queue = club.queue;
-    let (after, answer) = queue.joined_in_place(club.policy, byte(bytes, 4));
-    event(club, after, answer_code(answer))
+    let (queue, answer) = club.queue.joined_in_place(club.policy, byte(bytes, 4));
+    event(club, queue, answer_code(answer))
 }
 
 // LEAVE: the user of the record leaves the line, or gives the radio back.
 fn left(club: Club, bytes: &[u8]) -> Told
     ensures { result ≡ leave_told club bytes.now }
 {
-    let queue = club.queue;
-    event(club, queue.left_in_place(club.policy, byte(bytes, 4)), 0)
+    event(
+        club,
+        club.queue.left_in_place(club.policy, byte(bytes, 4)),
+        0,
+    )
 }
 
 // TICK: a second goes by.
 fn ticked(club: Club) -> Told
     ensures { result ≡ tick_told club }
 {
-    let queue = club.queue;
-    event(club, queue.ticked_in_place(club.policy), 0)
+    event(club, club.queue.ticked_in_place(club.policy), 0)
 }
 
 // Any other record: the judge has it, with all its bytes, and the line stays as it is.
 fn judged(club: Club, bytes: &[u8]) -> Told
     ensures { result ≡ judged_told club bytes.now }
 {
-    let queue = club.queue;
-    let answer = judge(club.policy, bytes);
-    let policy = answer.policy;
+    let Answer { policy, verdict } = judge(club.policy, bytes);
     Told {
-        club: Club { policy, queue },
-        outcome: Outcome::Judged(answer.verdict),
+        club: Club { policy, ..club },
+        outcome: Outcome::Judged(verdict),
     }
 }
 
