@@ -89,18 +89,16 @@ fn joined(club: Club, bytes: &[u8]) -> Told
 fn left(club: Club, bytes: &[u8]) -> Told
     ensures { result ≡ leave_told club bytes.now }
 {
-    event(
-        club,
-        club.queue.left_in_place(club.policy, byte(bytes, 4)),
-        0,
-    )
+    let queue = club.queue.left_in_place(club.policy, byte(bytes, 4));
+    event(club, queue, 0)
 }
 
 // TICK: a second goes by.
 fn ticked(club: Club) -> Told
     ensures { result ≡ tick_told club }
 {
-    event(club, club.queue.ticked_in_place(club.policy), 0)
+    let queue = club.queue.ticked_in_place(club.policy);
+    event(club, queue, 0)
 }
 
 // Any other record: the judge has it, with all its bytes, and the line stays as it is.
