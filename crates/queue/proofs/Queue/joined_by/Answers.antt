@@ -33,7 +33,7 @@ returns-then-waiters-eq8 c =
     let held = sym c.is_held.ensures ∙ c.if-not-is_held.false in
     join_full _ _ _ _ c.in_ok-asked.ensures held c.if-self-u.false
     (sym (in_waiters q c.args.u c.contains.ensures.value c.waiters-waiters.ensures.value) ∙ c.if-contains.false)
-    (rw (← c.waiters-waiters.ensures.value) c.if-waiters-eq8.true)
+    (rw (← c.waiters-waiters.ensures.value) (omega (arith, c.if-waiters-eq8.true)))
 
 pub returns : goal.returns
 returns c =
