@@ -1,10 +1,10 @@
 -- What `selkaum_gain` leaves in its buffer: nothing without a picture and room for two bytes, and else the bytes of the gain that is told.
-use mathlib.Core.Path.{◌≡◌, sym, subst, ◌∙◌}
-use mathlib.Core.Bool.{true, false, true≢false}
+use mathlib.Core.Path.{◌≡◌, subst}
+use mathlib.Core.Bool.{true}
 use mathlib.Core.List.{[], ◌∷◌}
-use Prim.Native.Nat.{ℕ, ◌≤◌, ◌<◌}
+use Prim.Native.Nat.{ℕ, ◌≤◌}
 use lib.ListN.{length, set}
-use borrow.Author.Tests.{eq-eqb, ne_eqb, le-leb, lt-leb}
+use borrow.Author.Tests.{eq-eqb, le-leb}
 use Rattle.reach.specs.declared.Policy.{Policy}
 use Rattle.std.specs.Prelude.{Option, Some, None}
 use Rattle.gains.specs.declared.Permission.{Permission}
@@ -15,10 +15,6 @@ use Rattle.export.specs.Told.{gain_fits, GainTold}
 use Rattle.export.proofs.Storing.{sets_front}
 
 module _ (picture bytes buffer : Bytes) where
-  untold : gain_fits picture buffer ≡ false → GainTold picture bytes buffer buffer 0
-  untold short =
-      record { gain = None; told = λ fits. absurd (true≢false (sym fits ∙ short)); written = rw short; count = rw short }
-
   module _ (p : Policy) (g : Option Permission) (is : (length picture ≡ 960) × (p ≡ policy_of picture)) (h : 2 ≤ length buffer)
       (s : OwnGainOf p bytes g) where
     fits : gain_fits picture buffer ≡ true

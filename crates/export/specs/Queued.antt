@@ -8,8 +8,7 @@ use Rattle.reach.specs.Tests.{◌⇒◌∥◌}
 use Rattle.frame.specs.Fields.{byte}
 use Rattle.text.specs.Text.{Bytes}
 use Rattle.queue.specs.declared.Queue.{Queue}
-use Rattle.queue.specs.declared.Joined.{Joined}
-use Rattle.queue.specs.Stored.{start}
+use Rattle.queue.specs.Stored.{Joined, start}
 use Rattle.export.specs.Picture.{table, number_from, bytes_of, policy_of}
 
 -- ---- The record of a picture

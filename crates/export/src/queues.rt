@@ -7,7 +7,7 @@ ghost use Rattle.queue.specs.Stored.{after_join, after_leave, after_tick};
 ghost use Rattle.export.specs.Queued.{queue_from, queue_bytes, QueueStarted, QueueTold};
 
 use crate::reading::opened;
-use queue::Queue;
+use queue::{Queue, answer_code};
 use std::array;
 
 // The record of a picture.
@@ -63,9 +63,9 @@ pub extern "C" fn selkaum_queue_join(policy: &[u8], queue: &mut [u8], user: u8) 
         return 255;
     };
     let mut line = queue_of(picture);
-    let code = line.join(p, user);
+    let answer = line.join(p, user);
     *picture = bytes_of(line);
-    code
+    answer_code(answer)
 }
 
 // A user leaves the line, or gives the radio back. The result is 0.

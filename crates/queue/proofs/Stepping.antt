@@ -1,6 +1,7 @@
 -- What each event comes to on each way through it: the facts that were tested on the way pick one row of the
 -- definition.
-use mathlib.Core.Path.{◌≡◌, refl, sym, ap}
+use Rattle.std.specs.Prelude.{Option, Result, Ok, Err, is_ok, IsErrAnd}
+use mathlib.Core.Path.{◌≡◌, refl, sym, ap, ◌∙◌}
 use mathlib.Core.Bool.{Bool, true, false}
 use mathlib.Core.List.{[]}
 use Prim.Native.Nat.{ℕ, max, min, ◌-◌, ◌<◌, ◌≤◌}
@@ -8,15 +9,19 @@ use native.Mathlib.Omega.{arith}
 use lib.Dec.{eqb, ltb}
 use Rattle.reach.specs.Tests.{◌⇒◌∥◌}
 use lib.ListN.{length}
-use lib.Seq.{length-take-le}
 use borrow.Author.Tests.{eq-eqb, ne_eqb, eqb-true, eqb-false, ltb-true, ltb-false}
 use Rattle.reach.specs.declared.Policy.{Policy}
-use Rattle.access.specs.Using.{use_code}
+use Rattle.rules.specs.declared.Refusal.{Refusal}
+use Rattle.rules.specs.Judging.{Verdict, number_of, code_of}
+use Rattle.rules.proofs.Numbered.{numbered_above}
+use Rattle.access.specs.Using.{use_verdict, use_code}
 use Rattle.access.proofs.UseTable.{use_permitted}
 use Rattle.queue.specs.declared.Queue.{Queue}
+use Rattle.queue.specs.declared.Refused.{Refused}
+use Rattle.queue.specs.declared.Refused.TheVariants.{Use}
 use Rattle.queue.specs.Line.{free, held, counted, may_transmit, is_in, without, called}
 use Rattle.queue.specs.Stored.{is_held, line_of, waiters, queue_of, may_at, code_at, after_join, after_leave, after_tick}
-use Rattle.queue.specs.Rows.{followed, joined_as}
+use Rattle.queue.specs.Rows.{followed, joined_as, joined_of}
 use Rattle.queue.proofs.Placing.{stored_more}
 
 -- ---- N as it counts
@@ -44,44 +49,55 @@ pub says_held : (q : Queue) → is_held q ≡ true → line_of q ≡ held q.hold
 unfolding line_of
 says_held q e = rw e
 
-pub waiters_count : (q : Queue) → length q.waiting ≡ 8 → q.count ≤ 8 → length (waiters q) ≡ q.count
-waiters_count q long few = length-take-le _ _ (omega arith)
+-- ---- What the judge says
+
+-- Who is not refused is permitted.
+pub asked_permits : (p : Policy) (u x : ℕ) {v : Verdict} → v ≡ use_verdict p u x 2 → is_ok v ≡ may_transmit p x u
+unfolding may_transmit use_code
+asked_permits p u x {v} asked = go v ∙ ap (λ (w : Verdict). eqb (code_of w) 0) asked ∙ use_permitted p u x 2
+  where
+    go : (v : Verdict) → is_ok v ≡ eqb (code_of v) 0
+    go (Ok by) = refl
+    go (Err r) = sym (ne_eqb (number_of r) 0 (λ e. omega (arith, e, numbered_above r)))
 
 -- ---- A join
 
-module _ (q : Queue) (p : Policy) (u c : ℕ) (asked : c ≡ use_code p u q.gear 2) where
-  pub join_refused : (c ≡ 0 → ⊥) → after_join q p u ≡ joined_as q c
-  unfolding after_join code_at
-  join_refused n = simp (← asked, ne_eqb c 0 n)
+module _ (q : Queue) (p : Policy) (u : ℕ) where
+  pub join_refused : (r : Refusal) (a : Result Queue Refused) → Err r ≡ use_verdict p u q.gear 2 → IsErrAnd a (λ e. e ≡ Use r)
+      → joined_of q a ≡ after_join q p u
+  unfolding after_join code_at use_code
+  join_refused r (Ok after) asked e = absurd e
+  join_refused r (Err f) asked e = simp (e, ← asked, ne_eqb (number_of r) 0 (λ e. omega (arith, e, numbered_above r)))
 
-  module _ (zero : c ≡ 0) where
+  -- What he joins is as follows, where the judge does not refuse.
+  module _ (by : Option ℕ) (asked : Ok by ≡ use_verdict p u q.gear 2) where
     -- He is the only one in the line, and permitted.
-    pub join_free : is_held q ≡ false → after_join q p u ≡ joined_as (queue_of q (held u (counted q.turn) [])) 0
-    unfolding after_join code_at called may_transmit
-    join_free f = simp (says_free q f, ← use_permitted p u q.gear 2, ← asked, eq-eqb c 0 zero)
+    pub join_free : is_held q ≡ false → joined_as (queue_of q (held u (counted q.turn) [])) 0 ≡ after_join q p u
+    unfolding after_join code_at use_code called
+    join_free f = simp (says_free q f, ← asked_permits p u q.gear asked, ← asked)
 
     module _ (e : is_held q ≡ true) where
-      pub join_holder : q.holder ≡ u → after_join q p u ≡ joined_as q 15
-      unfolding after_join code_at
-      join_holder h = simp (says_held q e, ← asked, eq-eqb c 0 zero, eq-eqb _ _ h)
+      pub join_holder : q.holder ≡ u → joined_as q 15 ≡ after_join q p u
+      unfolding after_join code_at use_code
+      join_holder h = simp (says_held q e, ← asked, eq-eqb _ _ h)
 
       module _ (other : q.holder ≡ u → ⊥) where
-        pub join_waiter : is_in u (waiters q) ≡ true → after_join q p u ≡ joined_as q 15
-        unfolding after_join code_at
-        join_waiter w = simp (says_held q e, ← asked, eq-eqb c 0 zero, ne_eqb _ _ other, w)
+        pub join_waiter : is_in u (waiters q) ≡ true → joined_as q 15 ≡ after_join q p u
+        unfolding after_join code_at use_code
+        join_waiter w = simp (says_held q e, ← asked, ne_eqb _ _ other, w)
 
         module _ (new : is_in u (waiters q) ≡ false) where
-          pub join_full : length (waiters q) ≡ 8 → after_join q p u ≡ joined_as q 16
-          unfolding after_join code_at
-          join_full l = simp (says_held q e, ← asked, eq-eqb c 0 zero, ne_eqb _ _ other, new, eq-eqb _ _ l)
+          pub join_full : length (waiters q) ≡ 8 → joined_as q 16 ≡ after_join q p u
+          unfolding after_join code_at use_code
+          join_full l = simp (says_held q e, ← asked, ne_eqb _ _ other, new, eq-eqb _ _ l)
 
           pub join_last : length (waiters q) < 8
-              → after_join q p u ≡ joined_as (followed (queue_of q (held q.holder q.left (waiters q))) u) 0
-          unfolding after_join code_at
+              → joined_as (followed (queue_of q (held q.holder q.left (waiters q))) u) 0 ≡ after_join q p u
+          unfolding after_join code_at use_code
           join_last l =
               let room : length (waiters q) ≡ 8 → ⊥ = λ f. omega (arith, f) in
-              simp (says_held q e, ← asked, eq-eqb c 0 zero, ne_eqb _ _ other, new, ne_eqb _ _ room)
-              (ap (λ (r : Queue). joined_as r 0) (sym (stored_more q q.holder q.left (waiters q) u l)))
+              simp (says_held q e, ← asked, ne_eqb _ _ other, new, ne_eqb _ _ room)
+              (ap (λ (r : Queue). joined_as r 0) (stored_more q q.holder q.left (waiters q) u l))
 
 -- ---- A leave
 

@@ -1,8 +1,11 @@
 -- The waiting line at one radio, and what each event does to it.
-use Rattle.std.specs.Prelude.{Bool, true, false, not, ◌||◌, List, [], ◌∷◌, ◌++◌, ℕ, ◌-◌, eqb, ltb, length}
+use Rattle.std.specs.Prelude.{Bool, true, false, not, ◌||◌, List, [], ◌∷◌, ◌++◌, ℕ, ◌-◌, eqb, ltb, length, Result, Ok, Err}
 use Rattle.reach.specs.declared.Policy.{Policy}
 use Rattle.reach.specs.Tests.{◌⇒◌∥◌}
 use Rattle.reach.specs.Privileges.{permitted}
+use Rattle.rules.specs.Judging.{number_of}
+use Rattle.queue.specs.declared.Refused.{Refused}
+use Rattle.queue.specs.declared.Refused.TheVariants.{Use, InLine, Full}
 
 -- [02:4.1] "Up to 8 may wait, first come first served, besides the one holding it." The radio is free, and nobody
 -- waits; or it is held: by whom, how many ticks are left of his turn, and who waits, in the order in which they came.
@@ -74,3 +77,14 @@ ticked may n (held h t ws) = eqb t 1 ⇒ called may n ws ∥ held h (t - 1) ws
 -- holds, then 16 line full": the number, where `refusal` is that of the USE refusal, 0 for none.
 abbrev pub join_code : ℕ → ℕ → Line → ℕ
 join_code refusal u l = not (eqb refusal 0) ⇒ refusal ∥ there u l ⇒ 15 ∥ full l ⇒ 16 ∥ 0
+
+-- [02:4.13] The number of each refusal: "the USE refusals of document 01, then 15 already there, .. then 16 line full".
+abbrev pub refused_number : Refused → ℕ
+refused_number (Use r) = number_of r
+refused_number InLine = 15
+refused_number Full = 16
+
+-- The number of an answer, 0 for an accepted join.
+abbrev pub answer_code : Result (Unit {0}) Refused → ℕ
+answer_code (Ok none) = 0
+answer_code (Err r) = refused_number r

@@ -5,7 +5,6 @@ use Rattle.reach.specs.declared.Policy.{Policy}
 use Rattle.reach.specs.Tests.{◌⇒◌∥◌}
 use Rattle.access.specs.Using.{use_code}
 use Rattle.queue.specs.declared.Queue.{Queue}
-use Rattle.queue.specs.declared.Joined.{Joined}
 use Rattle.queue.specs.Line.{Line, free, held, counted, may_transmit, is_in, there, is_free, joined_by, left_by, ticked, join_code}
 
 -- ---- What a record says
@@ -55,6 +54,11 @@ may_at q p u = may_transmit p q.gear u
 -- gear, by u.
 unfoldable pub code_at : Queue → Policy → ℕ → ℕ
 code_at q p u = join_code (use_code p u q.gear 2) u (line_of q)
+
+-- A record after a join, and the join's number.
+pub record Joined : Type 0 where
+  pub queue : Queue
+  pub code : ℕ
 
 -- [02:4.12] "Leaving by one who is not there, a tick while the radio is free, and a refused join leave the record as it
 -- was."

@@ -1,27 +1,28 @@
 // What each event makes of a record, by value.
 ghost use Rattle.std.specs.Prelude.{◌≡◌, [], ◌<◌, ◌≤◌, length};
-ghost use Rattle.access.specs.Using.{use_code};
+ghost use Rattle.access.specs.Using.{use_verdict};
 ghost use Rattle.queue.specs.Line.{free, held, counted, may_transmit, called};
 ghost use Rattle.queue.specs.Stored.{is_held, waiters, queue_of, may_at, after_join, after_leave, after_tick};
-ghost use Rattle.queue.specs.Rows.{followed, joined_as};
+ghost use Rattle.queue.specs.Rows.{followed, joined_of};
 
 use crate::rows::fits;
-use crate::{Joined, Queue};
-use access::use_code;
+use crate::{Queue, Refused};
+use access::use_verdict;
 use reach::Policy;
+use rules::Verdict;
 
-// The number of the USE refusal for operation 2 on the gear, 0 for none.
-fn refusal(p: Policy, gear: u8, u: u8) -> u8
-    ensures { result ≡ use_code p u gear 2 }
+// What the judge says to a USE of operation 2 on the gear.
+fn asked(p: Policy, gear: u8, u: u8) -> Verdict
+    ensures { result ≡ use_verdict p u gear 2 }
 {
-    use_code(p, u, gear, 2)
+    use_verdict(p, u, gear, 2)
 }
 
 // Whether u is permitted operation 2 on the gear.
 fn may_transmit(p: Policy, gear: u8, u: u8) -> bool
     ensures { result ≡ may_transmit p gear u }
 {
-    refusal(p, gear, u) == 0
+    asked(p, gear, u).is_ok()
 }
 
 // N as it counts.
@@ -29,13 +30,6 @@ fn counted(turn: u16) -> u16
     ensures { result ≡ counted turn }
 {
     turn.clamp(1, 600)
-}
-
-// A join with its number.
-fn answered(queue: Queue, code: u8) -> Joined
-    ensures { result ≡ joined_as queue code }
-{
-    Joined { queue, code }
 }
 
 impl Queue {
@@ -47,31 +41,18 @@ impl Queue {
         &self.waiting[..usize::from(self.count.min(8))]
     }
 
-    // Whether the radio is held, by a record with nothing wrong in it: one test after the other, each of which the ones behind it may count
-    // on.
+    // Whether the radio is held, by a record with nothing wrong in it.
     fn is_held(self) -> bool
         ensures { result ≡ is_held self }
     {
-        if self.held != 1 {
-            return false;
-        }
-        if self.count > 8 {
-            return false;
-        }
-        if self.left < 1 {
-            return false;
-        }
-        if self.left > counted(self.turn) {
-            return false;
-        }
-        if self.holder >= 64 {
-            return false;
-        }
         let waiters = self.waiters();
-        if waiters.contains(&self.holder) {
-            return false;
-        }
-        fits(waiters)
+        self.held == 1
+            && self.count <= 8
+            && 1 <= self.left
+            && self.left <= counted(self.turn)
+            && self.holder < 64
+            && !waiters.contains(&self.holder)
+            && fits(waiters)
     }
 
     // The radio free, and nobody waits.
@@ -124,28 +105,22 @@ impl Queue {
         self.freed()
     }
 
-    // The record after a join by u, and its number.
-    pub fn joined_by(self, p: Policy, u: u8) -> Joined
-        ensures { result ≡ after_join self p u }
+    // The record after a join by u, or why it is refused.
+    pub fn joined_by(self, p: Policy, u: u8) -> Result<Self, Refused>
+        ensures { joined_of self result ≡ after_join self p u }
     {
-        let refused = refusal(p, self.gear, u);
-        if refused != 0 {
-            return answered(self, refused);
-        }
+        asked(p, self.gear, u)?;
         if !self.is_held() {
-            return answered(self.given(u, counted(self.turn), &[]), 0);
-        }
-        if self.holder == u {
-            return answered(self, 15);
+            return Ok(self.given(u, counted(self.turn), &[]));
         }
         let waiters = self.waiters();
-        if waiters.contains(&u) {
-            return answered(self, 15);
+        if self.holder == u || waiters.contains(&u) {
+            return Err(Refused::InLine);
         }
         if waiters.len() == 8 {
-            return answered(self, 16);
+            return Err(Refused::Full);
         }
-        answered(self.given(self.holder, self.left, waiters).followed(u), 0)
+        Ok(self.given(self.holder, self.left, waiters).followed(u))
     }
 
     // The record after u has left.

@@ -14,9 +14,9 @@ use Rattle.frame.specs.Fields.{kind_field}
 use Rattle.frame.specs.Reading.{records_from, torn_from}
 use Rattle.frame.proofs.Records.{records_few}
 use Rattle.reach.specs.Tests.{◌⇒◌∥◌}
-use Rattle.rules.specs.Judging.{judge}
+use Rattle.rules.specs.Judging.{code_of, cited_of, judge}
 use Rattle.rules.proofs.Bounded.{code_bounded, cited_bounded}
-use Rattle.text.specs.Text.{Bytes, line, Printed}
+use Rattle.text.specs.Text.{Bytes, Printed}
 use Rattle.text.proofs.Decimals.{decimal_length}
 use Rattle.text.proofs.Lengths.{line_length}
 use Rattle.text.proofs.Writing.{printed_all}
@@ -28,17 +28,22 @@ use Rattle.queue.proofs.Storing.{Stores, start_stores, join_stores, leave_stores
 use Rattle.queue.proofs.Numbers.{turn_few, join_code_few}
 use Rattle.queue_run.specs.declared.club.Club.{Club}
 use Rattle.queue_run.specs.declared.club.Told.{Told}
+use Rattle.queue_run.specs.declared.club.Outcome.{Outcome}
+use Rattle.queue_run.specs.declared.club.Outcome.TheVariants.{Event, Judged}
 use Rattle.queue_run.specs.Program.{founding, told_of, misfit_told, judged_told, sized}
 use Rattle.queue_run.specs.Program.{start_told, join_told, leave_told, tick_told}
-use Rattle.queue_run.specs.Output.{spaced, queue_text, event_line, told_line, lines_of, lines_from, too_long, output}
+use Rattle.queue_run.specs.Output.{spaced, queue_text, event_line, outcome_line, told_line, lines_of, lines_from, too_long, output}
 
 -- ---- What a line is told by
 
 -- The line at the radio is stored as events leave it, and the numbers are those of an answer.
+abbrev Few : Outcome → Type 0
+Few (Event code) = code ≤ 16
+Few (Judged v) = (code_of v ≤ 16) × (cited_of v ≤ 255)
+
 record Plain (t : Told) : Type 0 where
   stores : Stores t.club.queue
-  code : t.code ≤ 16
-  cited : t.cited ≤ 255
+  numbers : Few t.outcome
 
 either : (b : Bool) {t s : Told} → Plain t → Plain s → Plain (b ⇒ t ∥ s)
 either true h i = h
@@ -48,26 +53,25 @@ told_plain : (c : Club) (b : Bytes) → Stores c.queue → Plain (told_of c b)
 unfolding told_of
 told_plain c b s =
     either (eqb (kind_field b) 32)
-    (own 7 (start_told c b) (record { stores = start_stores _ _; code = zero-le; cited = omega arith }))
+    (own 7 (start_told c b) (record { stores = start_stores _ _; numbers = zero-le }))
     (either (eqb (kind_field b) 33)
-    (own 5 (join_told c b) (record { stores = join_stores _ _ _ s; code = join_code_few _ _ _; cited = omega arith }))
+    (own 5 (join_told c b) (record { stores = join_stores _ _ _ s; numbers = join_code_few _ _ _ }))
     (either (eqb (kind_field b) 34)
-    (own 5 (leave_told c b) (record { stores = leave_stores _ _ _ s; code = zero-le; cited = omega arith }))
+    (own 5 (leave_told c b) (record { stores = leave_stores _ _ _ s; numbers = zero-le }))
     (either (eqb (kind_field b) 35)
-    (own 4 (tick_told c) (record { stores = tick_stores _ _ s; code = zero-le; cited = omega arith }))
+    (own 4 (tick_told c) (record { stores = tick_stores _ _ s; numbers = zero-le }))
     judged)))
   where
     own : (n : ℕ) (t : Told) → Plain t → Plain (sized n c b t)
     own n t h =
         either (eqb (length b) n) {t = t} {s = misfit_told c} h
-        (record { stores = s; code = omega arith; cited = omega arith })
+        (record { stores = s; numbers = (omega arith, omega arith) })
 
     judged : Plain (judged_told c b)
     judged =
         record {
           stores = s;
-          code = omega (arith, code_bounded (judge c.policy b).verdict);
-          cited = cited_bounded c.policy b;
+          numbers = (omega (arith, code_bounded (judge c.policy b).verdict), cited_bounded c.policy b);
         }
 
 -- ---- How long a line is
@@ -96,16 +100,16 @@ queue_length q s = go (stores_said q s)
 
 told_length : (i : ℕ) (t : Told) → i < 100000 → Plain t → length (told_line i t) ≤ 40
 unfolding told_line event_line
-told_length i t h p = go t.event
+told_length i t h p = go t.outcome p.numbers
   where
-    go : (event : Bool) → length (event ⇒ event_line i t.code t.club.queue ∥ line i t.code t.cited) ≤ 40
-    go true =
+    go : (o : Outcome) → Few o → length (outcome_line i t.club.queue o) ≤ 40
+    go (Event n) few =
         let index = decimal_length 4 i (omega arith) in
-        let code = decimal_length 1 t.code (omega (arith, p.code)) in
+        let code = decimal_length 1 n (omega (arith, few)) in
         let line = queue_length t.club.queue p.stores in
         simp length-append (omega arith)
-    go false =
-        omega (arith, line_length 4 i t.code t.cited (omega arith) (omega (arith, p.code)) (omega (arith, p.cited)))
+    go (Judged v) few =
+        omega (arith, line_length 4 i (code_of v) (cited_of v) (omega arith) (omega (arith, few.0)) (omega (arith, few.1)))
 
 -- ---- The lines of an input
 

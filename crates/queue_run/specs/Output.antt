@@ -6,9 +6,12 @@ use Rattle.std.proofs.lemmas.List.{length-append}
 use Rattle.frame.specs.Reading.{records_from, torn_from}
 use Rattle.text.specs.Text.{Bytes, decimal, line}
 use Rattle.reach.specs.Tests.{◌⇒◌∥◌}
+use Rattle.rules.specs.Judging.{code_of, cited_of}
 use Rattle.queue.specs.declared.Queue.{Queue}
 use Rattle.queue_run.specs.declared.club.Club.{Club}
 use Rattle.queue_run.specs.declared.club.Told.{Told}
+use Rattle.queue_run.specs.declared.club.Outcome.{Outcome}
+use Rattle.queue_run.specs.declared.club.Outcome.TheVariants.{Event, Judged}
 use Rattle.queue_run.specs.Program.{founding, told_of}
 
 -- The waiters in their order, a space (32) before each.
@@ -30,9 +33,13 @@ queue_text q =
 unfoldable pub event_line : ℕ → ℕ → Queue → Bytes
 event_line index code q = decimal index ++ (32 ∷ []) ++ decimal code ++ (32 ∷ []) ++ queue_text q ++ (10 ∷ [])
 
--- The line of a record: of an event, or index, code and cited rule as document 01 has it.
+-- The line of a record: of an event, or index, code and cited rule as document 01 has it. q is the line at the radio after the record.
+abbrev pub outcome_line : ℕ → Queue → Outcome → Bytes
+outcome_line index q (Event code) = event_line index code q
+outcome_line index q (Judged v) = line index (code_of v) (cited_of v)
+
 unfoldable pub told_line : ℕ → Told → Bytes
-told_line index t = t.event ⇒ event_line index t.code t.club.queue ∥ line index t.code t.cited
+told_line index t = outcome_line index t.club.queue t.outcome
 
 -- The lines of a list of records, the first numbered i and taken in by the club c, each later one by the club that the
 -- one before it left; and behind them, if there is one, that of a torn place: [01:runner.11] "its index, 1 and 255".

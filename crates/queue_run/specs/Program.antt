@@ -1,15 +1,17 @@
 -- What the program makes of its records: document 01's are judged on the policy, and four kinds of its own are the
 -- events of the line at the radio, each given with the policy as it then is.
-use Rattle.std.specs.Prelude.{true, false, ℕ, eqb, length}
+use Rattle.std.specs.Prelude.{ℕ, eqb, length, Err}
 use Rattle.frame.specs.Fields.{byte, little_endian, kind_field}
 use Rattle.text.specs.Text.{Bytes}
 use Rattle.reach.specs.Tests.{◌⇒◌∥◌}
 use Rattle.reach.specs.Tables.{initial}
-use Rattle.rules.specs.Judging.{judge, code_of, cited_of}
+use Rattle.rules.specs.declared.Refusal.TheVariants.{Misfit}
+use Rattle.rules.specs.Judging.{judge}
 use Rattle.queue.specs.declared.Queue.{Queue}
 use Rattle.queue.specs.Stored.{start, after_join, after_leave, after_tick}
 use Rattle.queue_run.specs.declared.club.Club.{Club}
 use Rattle.queue_run.specs.declared.club.Told.{Told}
+use Rattle.queue_run.specs.declared.club.Outcome.TheVariants.{Event, Judged}
 
 -- The founding policy; until a START the line is the empty one at gear 0 with N 0.
 abbrev pub founding : Club
@@ -19,20 +21,18 @@ founding = record { policy = initial; queue = start 0 0 }
 
 -- An event: the line after it, on the same policy, and its number.
 abbrev pub event_told : Club → Queue → ℕ → Told
-event_told c q code = record { club = record { policy = c.policy; queue = q }; event = true; code = code; cited = 255 }
+event_told c q code = record { club = record { policy = c.policy; queue = q }; outcome = Event code }
 
--- An own kind with a wrong length: 3, as for document 01's kinds, and nothing changes.
+-- An own kind with a wrong length: a misfit, 3, as for document 01's kinds, and nothing changes.
 abbrev pub misfit_told : Club → Told
-misfit_told c = record { club = c; event = false; code = 3; cited = 255 }
+misfit_told c = record { club = c; outcome = Judged (Err Misfit) }
 
--- Any other record: the judge's answer. The line stays as it is.
+-- Any other record: the judge's verdict. The line stays as it is.
 abbrev pub judged_told : Club → Bytes → Told
 judged_told c b =
     record {
       club = record { policy = (judge c.policy b).policy; queue = c.queue };
-      event = false;
-      code = code_of (judge c.policy b).verdict;
-      cited = cited_of (judge c.policy b).verdict;
+      outcome = Judged (judge c.policy b).verdict;
     }
 
 -- ---- The program's own kinds. The fields stand from byte 4 on.

@@ -1,15 +1,15 @@
 // What one record does: document 01's go to the judge, and the program's own kinds to the line at the radio.
 ghost use Rattle.std.specs.Prelude.{◌≡◌};
-ghost use Rattle.frame.specs.Fields.{little_endian};
-ghost use Rattle.queue_run.specs.Program.{founding, event_told, misfit_told, judged_told, sized, told_of};
+ghost use Rattle.queue_run.specs.Program.{founding, event_told, misfit_told, judged_told, told_of};
 ghost use Rattle.queue_run.specs.Program.{start_told, join_told, leave_told, tick_told};
 
 use frame::{byte, kind_field};
-use judge::{cited_of, code_of, judge};
-use queue::Queue;
+use judge::judge;
+use queue::{Queue, answer_code};
 use reach::Policy;
+use rules::{Answer, Refusal, Verdict};
 
-// The program's own kinds.
+// The program's own kinds: numbers, since a record may have any kind, and the match on it needs no enum between.
 const START: usize = 32;
 
 const JOIN: usize = 33;
@@ -25,13 +25,18 @@ pub struct Club {
     pub queue: Queue,
 }
 
-// What a record leaves, and what is told of it: after an event the code and the line, else the code and the cited rule.
+// What came of a record: an event with its number, or the verdict on it.
+#[derive(Clone, Copy, Debug, PartialEq, Eq)]
+pub enum Outcome {
+    Event(u8),
+    Judged(Verdict),
+}
+
+// What a record leaves, and what came of it.
 #[derive(Clone, Copy)]
 pub struct Told {
     pub club: Club,
-    pub event: bool,
-    pub code: u8,
-    pub cited: u8,
+    pub outcome: Outcome,
 }
 
 // The founding policy, and the line until a START.
@@ -48,93 +53,62 @@ pub fn founded() -> Club
 fn event(club: Club, queue: Queue, code: u8) -> Told
     ensures { result ≡ event_told club queue code }
 {
-    let policy = club.policy;
     Told {
-        club: Club { policy, queue },
-        event: true,
-        code,
-        cited: 255,
+        club: Club { queue, ..club },
+        outcome: Outcome::Event(code),
     }
 }
 
-// What is told of an own kind with a wrong length: 3, and nothing changes.
+// What is told of an own kind with a wrong length: a misfit, and nothing changes.
 fn misfit(club: Club) -> Told
     ensures { result ≡ misfit_told club }
 {
     Told {
         club,
-        event: false,
-        code: 3,
-        cited: 255,
+        outcome: Outcome::Judged(Err(Refusal::Misfit)),
     }
-}
-
-// N, from its two bytes.
-fn turn_of(low: u8, high: u8) -> u16
-    ensures { result ≡ little_endian low high }
-{
-    u16::from_le_bytes([low, high])
 }
 
 // START: the line is set anew, at the gear and with the N of the record.
 fn started(club: Club, bytes: &[u8]) -> Told
-    ensures { result ≡ sized 7 club bytes.now (start_told club bytes.now) }
+    ensures { result ≡ start_told club bytes.now }
 {
-    if bytes.len() != 7 {
-        return misfit(club);
-    }
-    let gear = byte(bytes, 4);
-    let turn = turn_of(byte(bytes, 5), byte(bytes, 6));
-    event(club, Queue::start(gear, turn), 0)
+    let turn = u16::from_le_bytes([byte(bytes, 5), byte(bytes, 6)]);
+    event(club, Queue::start(byte(bytes, 4), turn), 0)
 }
 
 // JOIN: the user of the record asks for the radio.
 fn joined(club: Club, bytes: &[u8]) -> Told
-    ensures { result ≡ sized 5 club bytes.now (join_told club bytes.now) }
+    ensures { result ≡ join_told club bytes.now }
 {
-    if bytes.len() != 5 {
-        return misfit(club);
-    }
-    let queue = club.queue;
-    let answer = queue.joined_in_place(club.policy, byte(bytes, 4));
-    event(club, answer.queue, answer.code)
+    let (queue, answer) = club.queue.joined_in_place(club.policy, byte(bytes, 4));
+    event(club, queue, answer_code(answer))
 }
 
 // LEAVE: the user of the record leaves the line, or gives the radio back.
 fn left(club: Club, bytes: &[u8]) -> Told
-    ensures { result ≡ sized 5 club bytes.now (leave_told club bytes.now) }
+    ensures { result ≡ leave_told club bytes.now }
 {
-    if bytes.len() != 5 {
-        return misfit(club);
-    }
-    let queue = club.queue;
-    event(club, queue.left_in_place(club.policy, byte(bytes, 4)), 0)
+    let queue = club.queue.left_in_place(club.policy, byte(bytes, 4));
+    event(club, queue, 0)
 }
 
 // TICK: a second goes by.
-fn ticked(club: Club, bytes: &[u8]) -> Told
-    ensures { result ≡ sized 4 club bytes.now (tick_told club) }
+fn ticked(club: Club) -> Told
+    ensures { result ≡ tick_told club }
 {
-    if bytes.len() != 4 {
-        return misfit(club);
-    }
-    let queue = club.queue;
-    event(club, queue.ticked_in_place(club.policy), 0)
+    let queue = club.queue.ticked_in_place(club.policy);
+    event(club, queue, 0)
 }
 
 // Any other record: the judge has it, with all its bytes, and the line stays as it is.
 fn judged(club: Club, bytes: &[u8]) -> Told
     ensures { result ≡ judged_told club bytes.now }
 {
-    let queue = club.queue;
-    let answer = judge(club.policy, bytes);
-    let policy = answer.policy;
-    let verdict = answer.verdict;
+    let Answer { policy, verdict } = judge(club.policy, bytes);
     Told {
-        club: Club { policy, queue },
-        event: false,
-        code: code_of(verdict),
-        cited: cited_of(verdict),
+        club: Club { policy, ..club },
+        outcome: Outcome::Judged(verdict),
     }
 }
 
@@ -142,11 +116,12 @@ fn judged(club: Club, bytes: &[u8]) -> Told
 pub fn taken_in(club: Club, bytes: &[u8]) -> Told
     ensures { result ≡ told_of club bytes.now }
 {
-    match kind_field(bytes) {
-        START => started(club, bytes),
-        JOIN => joined(club, bytes),
-        LEAVE => left(club, bytes),
-        TICK => ticked(club, bytes),
+    match (kind_field(bytes), bytes.len()) {
+        (START, 7) => started(club, bytes),
+        (JOIN, 5) => joined(club, bytes),
+        (LEAVE, 5) => left(club, bytes),
+        (TICK, 4) => ticked(club),
+        (START | JOIN | LEAVE | TICK, _) => misfit(club),
         _ => judged(club, bytes),
     }
 }

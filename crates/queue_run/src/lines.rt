@@ -4,7 +4,8 @@ ghost use Rattle.std.specs.Prelude.{◌≡◌, take};
 ghost use Rattle.text.specs.Text.{Wrote};
 ghost use Rattle.queue_run.specs.Output.{spaced, queue_text, event_line, told_line};
 
-use crate::club::Told;
+use crate::club::{Outcome, Told};
+use judge::{cited_of, code_of};
 use queue::Queue;
 use text::{put_byte, put_bytes, put_line, put_number, put_small};
 
@@ -56,10 +57,8 @@ fn put_event(out: &mut [u8], n: usize, index: usize, code: u8, queue: Queue) -> 
 pub fn put_told(out: &mut [u8], n: usize, index: usize, told: Told) -> usize
     ensures { Wrote out.old n (told_line index told) out.new result }
 {
-    if told.event {
-        let club = told.club;
-        let queue = club.queue;
-        return put_event(out, n, index, told.code, queue);
+    match told.outcome {
+        Outcome::Event(code) => put_event(out, n, index, code, told.club.queue),
+        Outcome::Judged(verdict) => put_line(out, n, index, code_of(verdict), cited_of(verdict)),
     }
-    put_line(out, n, index, told.code, told.cited)
 }

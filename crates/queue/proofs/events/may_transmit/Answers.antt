@@ -1,11 +1,7 @@
--- Who is not refused is permitted (`use_permitted`).
-use mathlib.Core.Path.{ap, ◌∙◌}
-use Prim.Native.Nat.{ℕ}
-use lib.Dec.{eqb}
-use Rattle.access.proofs.UseTable.{use_permitted}
-use Rattle.queue.specs.Line.{may_transmit}
+-- Who is not refused is permitted.
+use Rattle.std.proofs.Common.{◌∙◌}
+use Rattle.queue.proofs.Stepping.{asked_permits}
 use Rattle.queue.proofs.events.may_transmit.Goals as goal
 
 pub returns : goal.returns
-unfolding may_transmit
-returns c = ap (λ (n : ℕ). eqb n 0) c.refusal.ensures ∙ use_permitted _ _ _ 2
+returns c = c.is_ok.ensures.value ∙ asked_permits _ _ _ c.asked.ensures

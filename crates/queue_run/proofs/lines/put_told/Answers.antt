@@ -1,11 +1,11 @@
--- `put_told` writes the line of an event after one, else that of the judge's answer: the two cases of `told_line`.
+-- `put_told` writes the line of an event after one, else that of the verdict: the two cases of `outcome_line`.
 use Rattle.queue_run.specs.Output.{told_line}
 use Rattle.queue_run.proofs.lines.put_told.Goals as goal
 
-pub returns-then-told : goal.returns-then-told
+pub returns-in-Event : goal.returns-in-Event
 unfolding told_line
-returns-then-told c = rw c.if-told.true c.put_event.ensures
+returns-in-Event c = rw c.in-Event.is c.put_event.ensures
 
-pub returns : goal.returns
+pub returns-in-Judged : goal.returns-in-Judged
 unfolding told_line
-returns c = rw c.if-told.false c.put_line.ensures
+returns-in-Judged c = rw (c.in-Judged.is, ← c.code_of.ensures, ← c.cited_of.ensures) c.put_line.ensures
