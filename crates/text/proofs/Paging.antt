@@ -1,0 +1,21 @@
+-- What is put on a page, one text behind the other.
+use mathlib.Core.Path.{◌≡◌, ◌∙◌}
+use mathlib.Core.List.{[], ◌∷◌, ◌++◌}
+use Prim.Native.Nat.{ℕ}
+use Rattle.text.specs.declared.Page.{Page}
+use Rattle.text.specs.Text.{Bytes}
+use Rattle.text.specs.Paging.{Puts}
+use Rattle.text.proofs.Writing.{wrote_as, wrote_then}
+
+-- Equal texts are put alike.
+pub puts_as : {p q : Page} {v w : Bytes} → v ≡ w → Puts p v q → Puts p w q
+puts_as e f = record { wrote = wrote_as e f.wrote; same = f.same }
+
+-- Two texts put one after the other are their join, put.
+pub puts_then : {p q r : Page} {v w : Bytes} → Puts p v q → Puts q w r → Puts p (v ++ w) r
+puts_then e f = record { wrote = wrote_then e.wrote f.wrote; same = f.same ∙ e.same }
+
+-- A text and behind it one byte, however that byte was worked out.
+pub puts_sign : {p q r : Page} {v : Bytes} {byte : ℕ} (sign : ℕ) → Puts p v q → Puts q (byte ∷ []) r → byte ≡ sign
+    → Puts p (v ++ (sign ∷ [])) r
+puts_sign sign e f is = puts_then e (rw is at f)
