@@ -3,9 +3,9 @@ use mathlib.Core.Path.{◌≡◌, ◌∙◌}
 use mathlib.Core.List.{[], ◌∷◌, ◌++◌}
 use Prim.Native.Nat.{ℕ}
 use Rattle.text.specs.declared.Page.{Page}
-use Rattle.text.specs.Text.{Bytes}
+use Rattle.text.specs.Text.{Bytes, Printed}
 use Rattle.text.specs.Paging.{Puts}
-use Rattle.text.proofs.Writing.{wrote_as, wrote_then}
+use Rattle.text.proofs.Writing.{wrote_as, wrote_then, printed_of_wrote}
 
 -- Equal texts are put alike.
 pub puts_as : {p q : Page} {v w : Bytes} → v ≡ w → Puts p v q → Puts p w q
@@ -19,3 +19,7 @@ puts_then e f = record { wrote = wrote_then e.wrote f.wrote; same = f.same ∙ e
 pub puts_sign : {p q r : Page} {v : Bytes} {byte : ℕ} (sign : ℕ) → Puts p v q → Puts q (byte ∷ []) r → byte ≡ sign
     → Puts p (v ++ (sign ∷ [])) r
 puts_sign sign e f is = puts_then e (rw is at f)
+
+-- What is put on a page that begins at the start of its buffer stands there.
+pub printed_page : {p q : Page} {out w : Bytes} → p.at ≡ 0 → p.out.now ≡ out → Puts p w q → Printed out w q.out.now q.at
+printed_page e f puts = printed_of_wrote (rw (e, f) at puts.wrote)

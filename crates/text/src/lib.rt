@@ -3,7 +3,7 @@
 #![tactic(auto)]
 
 ghost use Rattle.std.specs.Prelude.{[], ◌∷◌, ◌≡◌};
-ghost use Rattle.text.specs.Text.{Wrote, decimal, line};
+ghost use Rattle.text.specs.Text.{Wrote, Printed, decimal, line};
 ghost use Rattle.text.specs.Paging.{Puts};
 
 // A lent buffer, and the place where the next byte goes.
@@ -79,6 +79,15 @@ impl<'a> Page<'a> {
         self.small(cited);
         self.byte(b'\n');
     }
+}
+
+// The text, from the start of the buffer on.
+pub fn print(out: &mut [u8], text: &[u8]) -> usize
+    ensures { Printed out.old text.now out.new result }
+{
+    let mut page = Page::new(out);
+    page.bytes(text);
+    page.at
 }
 
 pub fn put_byte(out: &mut [u8], n: usize, byte: u8) -> usize
