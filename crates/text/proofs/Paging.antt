@@ -1,11 +1,15 @@
 -- What is put on a page, one text behind the other.
-use mathlib.Core.Path.{◌≡◌, ◌∙◌}
+use mathlib.Core.Path.{◌≡◌, refl, ◌∙◌}
 use mathlib.Core.List.{[], ◌∷◌, ◌++◌}
 use Prim.Native.Nat.{ℕ}
 use Rattle.text.specs.declared.Page.{Page}
 use Rattle.text.specs.Text.{Bytes, Printed}
 use Rattle.text.specs.Paging.{Puts}
-use Rattle.text.proofs.Writing.{wrote_as, wrote_then, printed_of_wrote}
+use Rattle.text.proofs.Writing.{wrote_none, wrote_as, wrote_then, printed_of_wrote}
+
+-- Nothing put is no change.
+pub puts_none : (p : Page) → Puts p [] p
+puts_none p = record { wrote = wrote_none p.out.now p.at; same = refl }
 
 -- Equal texts are put alike.
 pub puts_as : {p q : Page} {v w : Bytes} → v ≡ w → Puts p v q → Puts p w q
