@@ -15,23 +15,9 @@ use Rattle.frame.specs.Fields.{byte}
 use Rattle.text.specs.Text.{Bytes}
 use Rattle.export.specs.Picture.{table, number_from, sort_at, row_at, appointment_at, rule_at, policy_of}
 use Rattle.export.specs.Picture.{flat, bytes_of, row_bytes, appointment_bytes, mark, rule_bytes, picture_of}
+use Rattle.export.proofs.Tabling.{table_of}
 use Rattle.export.proofs.Storing.{bytes_length}
 use Rattle.export.proofs.Picturing.{rows, appointments, rules, to_rows, to_appointments}
-
--- ---- Tables
-
--- A table is the list that has its places.
-module _
-    {A : Type 0} (n : ℕ) (f : ℕ → A) (xs : List A) (d : A) (long : length xs ≡ n) (each : (i : ℕ) → i < n → f i ≡ get_or xs i d) where
-  table_prefix : (i : ℕ) → i ≤ n → table i f ≡ take i xs
-  unfolding table
-  table_prefix zero h = refl
-  table_prefix (suc i) h =
-      ap₂ (λ (l : List A) (x : A). l ++ (x ∷ [])) (table_prefix i (omega arith)) (each i h)
-      ∙ sym (take-suc xs i d (omega (arith, long)))
-
-  pub table_of : table n f ≡ xs
-  table_of = table_prefix n (omega arith) ∙ take_all n xs (omega (arith, long))
 
 -- Byte j of place i of a table, w bytes to a place.
 module _ {A : Type 0} (f : A → Bytes) (w : ℕ) (each : (x : A) → length (f x) ≡ w) (rest : Bytes) (d : A) where

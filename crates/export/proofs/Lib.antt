@@ -7,6 +7,7 @@ pub mod Picturing
 pub mod Faithful
 pub mod Filling
 pub mod Telling
+pub mod Existing
 pub mod Asking
 pub mod Counting
 pub mod Carding

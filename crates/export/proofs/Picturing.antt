@@ -1,11 +1,12 @@
 -- The picture as a whole: its length, its four tables stored at their places, and the answer behind it.
 use mathlib.Core.Path.{◌≡◌, refl, sym, ap, ◌∙◌}
 use mathlib.Core.Bool.{true, false}
-use mathlib.Core.List.{[], ◌∷◌, ◌++◌}
-use Prim.Native.Nat.{ℕ, ◌*◌, ◌≤◌, ◌<◌}
+use mathlib.Core.List.{[], ◌∷◌, ◌++◌, append_assoc}
+use Prim.Native.Nat.{ℕ, ◌+◌, ◌*◌, ◌≤◌, ◌<◌}
 use native.Mathlib.Nat.{zero-add}
-use lib.ListN.{length, drop, set, length-append}
-use lib.Seq.{sets}
+use native.Mathlib.Omega.{arith}
+use lib.ListN.{length, take, drop, take-append-drop, set, length-append, length-drop}
+use lib.Seq.{sets, drop-drop}
 use borrow.Author.Tests.{eq-eqb, ne_eqb, le-leb, lt-leb}
 use Rattle.reach.specs.declared.Policy.{Policy}
 use Rattle.reach.specs.Tables.{Sized}
@@ -15,7 +16,7 @@ use Rattle.rules.proofs.TwoWordings.{judge_sized}
 use Rattle.text.specs.Text.{Bytes}
 use Rattle.export.specs.Picture.{policy_of, flat, row_bytes, appointment_bytes, rule_bytes, picture_of, answer_bytes, fitting, Judged}
 use Rattle.export.proofs.Tabling.{table_length}
-use Rattle.export.proofs.Storing.{sets_append, sets_front, bytes_length, flat_length}
+use Rattle.export.proofs.Storing.{sets_append, sets_front, sets_all, bytes_length, flat_length}
 
 -- The tables of a picture have their sizes, whatever its bytes.
 pub policy_sized : (b : Bytes) → Sized (policy_of b)
@@ -61,14 +62,19 @@ module _ (p : Policy) (z : Sized p) where
   unfolding picture_of
   picture_length = length-append (p.sorts ++ rows p ++ appointments p) (rules p) ∙ rw (to_appointments, rules_length)
 
-  -- The four tables, each stored at its place, are the picture stored at the start.
-  pub picture_stored : (l : Bytes)
-      → sets (sets (sets (sets l 0 p.sorts) 64 (rows p)) 576 (appointments p)) 704 (rules p) ≡ sets l 0 (picture_of p)
+  -- The sorts, and each other table stored at its place behind them, are the picture.
+  pub picture_stored : (l : Bytes) → length l ≡ 960
+      → sets (sets (sets (p.sorts ++ drop 64 l) 64 (rows p)) 576 (appointments p)) 704 (rules p) ≡ picture_of p
   unfolding picture_of
-  picture_stored l =
-      ap (λ (m : Bytes). sets (sets m 576 (appointments p)) 704 (rules p)) (store_next l p.sorts (rows p) z.sorts)
+  picture_stored l long =
+      let sorts : p.sorts ++ drop 64 l ≡ sets l 0 p.sorts =
+      ap (λ (n : ℕ). p.sorts ++ drop n l) (sym z.sorts) ∙ sym (sets_front l p.sorts (omega (arith, z.sorts)))
+      in
+      ap (λ (m : Bytes). sets (sets (sets m 64 (rows p)) 576 (appointments p)) 704 (rules p)) sorts
+      ∙ ap (λ (m : Bytes). sets (sets m 576 (appointments p)) 704 (rules p)) (store_next l p.sorts (rows p) z.sorts)
       ∙ ap (λ (m : Bytes). sets m 704 (rules p)) (store_next l (p.sorts ++ rows p) (appointments p) to_rows)
       ∙ store_next l (p.sorts ++ rows p ++ appointments p) (rules p) to_appointments
+      ∙ sets_all l (picture_of p) (picture_length ∙ sym long)
 
 -- ---- The answer
 
@@ -76,18 +82,36 @@ module _ (p : Policy) (z : Sized p) where
 abbrev numbers : Answer → Bytes
 numbers a = code_of a.verdict ∷ cited_of a.verdict ∷ []
 
-module _ (a : Answer) (z : Sized a.policy) where
-  -- "962 bytes"
-  pub answer_length : length (answer_bytes a) ≡ 962
-  answer_length = length-append (picture_of a.policy) (numbers a) ∙ rw (picture_length a.policy z)
+-- The first 960 bytes of a buffer, and those behind them.
+abbrev pub Halves : Bytes → Bytes → Bytes → Type 0
+Halves buffer front behind = (front ≡ take 960 buffer) × (behind ≡ drop 960 buffer) × (length behind + 960 ≡ length buffer)
 
+pub whole : (buffer : Bytes) {front behind : Bytes} → Halves buffer front behind → buffer ≡ front ++ behind
+whole buffer s = sym (rw (s.0, s.1) (take-append-drop 960 buffer))
+
+-- A byte, and two, stored at the start.
+pub one_set : (l : Bytes) (x : ℕ) → 1 ≤ length l → set l 0 x ≡ x ∷ drop 1 l
+one_set [] x h = absurd (omega arith)
+one_set (a ∷ l) x h = refl
+
+two_set : (l : Bytes) (x y : ℕ) → 2 ≤ length l → set (set l 0 x) 1 y ≡ x ∷ y ∷ drop 2 l
+two_set [] x y h = absurd (omega arith)
+two_set (a ∷ []) x y h = absurd (omega arith)
+two_set (a ∷ b ∷ l) x y h = refl
+
+module _ (a : Answer) where
+  -- "962 bytes"
+  pub answer_length : Sized a.policy → length (answer_bytes a) ≡ 962
+  answer_length z = length-append (picture_of a.policy) (numbers a) ∙ rw (picture_length a.policy z)
+
+  -- The answer, over the first bytes of a buffer.
   answer_stored : (buffer : Bytes) → 962 ≤ length buffer
-      → set (set (sets buffer 0 (picture_of a.policy)) 960 (code_of a.verdict)) 961 (cited_of a.verdict)
-      ≡ answer_bytes a ++ drop 962 buffer
+      → picture_of a.policy ++ set (set (drop 960 buffer) 0 (code_of a.verdict)) 1 (cited_of a.verdict) ≡ answer_bytes a ++ drop 962 buffer
   answer_stored buffer h =
-      store_next buffer (picture_of a.policy) (numbers a) (picture_length a.policy z)
-      ∙ sets_front buffer (answer_bytes a) (rw answer_length h)
-      ∙ ap (λ (n : ℕ). answer_bytes a ++ drop n buffer) answer_length
+      let room : 2 ≤ length (drop 960 buffer) = omega (arith, length-drop 960 buffer) in
+      ap (λ (l : Bytes). picture_of a.policy ++ l)
+      (two_set (drop 960 buffer) (code_of a.verdict) (cited_of a.verdict) room ∙ ap (λ (l : Bytes). numbers a ++ l) (drop-drop 2 960 buffer))
+      ∙ sym (append_assoc (picture_of a.policy) (numbers a) (drop 962 buffer))
 
 module _ (picture bytes buffer : Bytes) where
   judged_not : fitting picture buffer ≡ false → Judged picture bytes buffer buffer 0
@@ -97,19 +121,19 @@ module _ (picture bytes buffer : Bytes) where
   pub not_a_picture : (length picture ≡ 960 → ⊥) → Judged picture bytes buffer buffer 0
   not_a_picture n = judged_not (rw (ne_eqb (length picture) 960 n))
 
-  -- A buffer that is too short.
-  pub no_room : length picture ≡ 960 → length buffer < 962 → Judged picture bytes buffer buffer 0
-  no_room e h = judged_not (rw (eq-eqb (length picture) 960 e, lt-leb 962 (length buffer) h))
+  -- A buffer with 960 bytes that has less than two behind them.
+  pub no_room : {front behind : Bytes} → length picture ≡ 960 → Halves buffer front behind → length behind < 2
+      → Judged picture bytes buffer (front ++ behind) 0
+  no_room e s h =
+      let short = lt-leb 962 (length buffer) (omega (arith, s.2)) in
+      rw (← whole buffer s) (judged_not (rw (eq-eqb (length picture) 960 e, short)))
 
   -- The picture after, with the code and what is cited behind it.
-  pub judged : {buffer' : Bytes} (p : Policy) (a : Answer) (code cited : ℕ) → length picture ≡ 960 → 962 ≤ length buffer
-      → p ≡ policy_of picture → a ≡ judge p bytes → buffer' ≡ sets buffer 0 (picture_of a.policy)
+  pub judged : {front₀ front behind : Bytes} (p : Policy) (a : Answer) (code cited : ℕ) → (length picture ≡ 960) × (p ≡ policy_of picture)
+      → a ≡ judge p bytes → front ≡ picture_of a.policy → Halves buffer front₀ behind → 2 ≤ length behind
       → code ≡ code_of a.verdict → cited ≡ cited_of a.verdict
-      → Judged picture bytes buffer (set (set buffer' 960 code) 961 cited) 962
-  judged p a code cited long h i j e f g =
-      let fits : fitting picture buffer ≡ true = rw (eq-eqb (length picture) 960 long, le-leb 962 (length buffer) h) in
-      let z : Sized (judge (policy_of picture) bytes).policy = judge_sized (policy_of picture) (policy_sized picture) bytes in
-      record {
-        written = rw (fits, f, g, e, j, i) (answer_stored (judge (policy_of picture) bytes) z buffer h);
-        count = rw fits;
-      }
+      → Judged picture bytes buffer (front ++ set (set behind 0 code) 1 cited) 962
+  judged p a code cited is j drawn s low f g =
+      let h : 962 ≤ length buffer = omega (arith, s.2) in
+      let fits : fitting picture buffer ≡ true = rw (eq-eqb (length picture) 960 is.0, le-leb 962 (length buffer) h) in
+      record { written = rw (fits, drawn, s.1, f, g, j, is.1) (answer_stored (judge (policy_of picture) bytes) buffer h); count = rw fits }

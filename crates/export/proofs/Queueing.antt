@@ -17,8 +17,9 @@ use Rattle.queue.specs.declared.Joined.{Joined}
 use Rattle.queue.specs.Stored.{start}
 use Rattle.export.specs.Picture.{table, number_from, bytes_of, policy_of}
 use Rattle.export.specs.Queued.{queue_from, queue_bytes, queue_fits, QueueStarted, QueueTold}
-use Rattle.export.proofs.Faithful.{table_of, number_of_bytes}
-use Rattle.export.proofs.Storing.{sets_front}
+use Rattle.export.proofs.Tabling.{table_of}
+use Rattle.export.proofs.Faithful.{number_of_bytes}
+use Rattle.export.proofs.Storing.{sets_all}
 
 -- ---- Numbers of two bytes
 
@@ -56,11 +57,6 @@ queue_of_bytes q turn left eight = rw (number_of_bytes 2 q.turn turn, number_of_
 queue_length : (q : Queue) → length q.waiting ≡ 8 → length (queue_bytes q) ≡ 16
 unfolding queue_bytes bytes_of
 queue_length q eight = rw eight
-
--- Bytes stored over as many others are those bytes.
-sets_all : (l vs : Bytes) → length vs ≡ length l → sets l 0 vs ≡ vs
-sets_all l vs e =
-    sets_front l vs (omega arith) ∙ ap (λ (rest : Bytes). vs ++ rest) (drop_of_length-le l {i = length vs} (omega arith)) ∙ append-nil vs
 
 -- The bytes before the waiters.
 abbrev front : Queue → Bytes

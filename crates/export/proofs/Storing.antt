@@ -1,12 +1,14 @@
--- What the loops that draw a picture keep: the bytes to come, stored behind those so far, give the buffer with all of them.
+-- Bytes stored in others; and what the loop that draws a table keeps: the bytes to come, stored behind those so far, give the
+-- buffer with all of them.
 use mathlib.Core.Path.{◌≡◌, refl, sym, ap, ◌∙◌}
-use mathlib.Core.List.{List, [], ◌∷◌, ◌++◌}
+use mathlib.Core.List.{List, [], ◌∷◌, ◌++◌, append_assoc, append-nil}
 use Prim.Native.Nat.{ℕ, zero, suc, ◌+◌, ◌-◌, ◌*◌, ◌/◌, ◌%◌, ◌≤◌, ◌<◌, zero-le}
-use native.Mathlib.Nat.{mul-suc, zero-add}
+use native.Mathlib.Nat.{mul-suc, mul-le-mul_left, zero-add}
 use native.Mathlib.Numerals.{add-one}
 use native.Mathlib.Omega.{arith}
-use lib.ListN.{length, drop, set, get_or, length-set, length-append, drop_of_length-le}
-use lib.Seq.{drop-cons, sets, sets-eq, length-sets}
+use lib.ListN.{length, take, drop, set, get_or, length-set, length-append, drop_of_length-le}
+use lib.Seq.{drop-cons, drop-drop, sets, sets-eq, length-sets}
+use borrow.Rule.Slice.PartMut.{put_mid}
 use Rattle.text.specs.Text.{Bytes}
 use Rattle.export.specs.Picture.{flat, bytes_of}
 
@@ -21,14 +23,17 @@ sets_append l n (x ∷ a) b =
 pub sets_front : (l vs : Bytes) → length vs ≤ length l → sets l 0 vs ≡ vs ++ drop (length vs) l
 sets_front l vs h = sets-eq vs l 0 (rw zero-add h) ∙ rw zero-add
 
--- Four stores.
-pub sets_four : (l : Bytes) (at a b c d : ℕ)
-    → set (set (set (set l at a) (at + 1) b) (at + 2) c) (at + 3) d ≡ sets l at (a ∷ b ∷ c ∷ d ∷ [])
-sets_four l at a b c d =
-    let one : at + 1 ≡ suc at = omega arith in
-    let two : at + 2 ≡ suc (suc at) = omega arith in
-    let three : at + 3 ≡ suc (suc (suc at)) = omega arith in
-    rw (one, two, three)
+-- Bytes stored over as many others are those bytes.
+pub sets_all : (l vs : Bytes) → length vs ≡ length l → sets l 0 vs ≡ vs
+sets_all l vs e =
+    sets_front l vs (omega arith) ∙ ap (λ (rest : Bytes). vs ++ rest) (drop_of_length-le l {i = length vs} (omega arith)) ∙ append-nil vs
+
+-- A part that is written over has the bytes stored in its place.
+pub sets_mid : (l vs : Bytes) (i k : ℕ) → length vs ≡ k → i + k ≤ length l → put_mid i k l vs ≡ sets l i vs
+sets_mid l vs i k e h =
+    ap (λ (rest : Bytes). take i l ++ (vs ++ rest)) (drop-drop k i l ∙ ap (λ (n : ℕ). drop n l) (omega (arith, e)))
+    ∙ sym (append_assoc (take i l) vs (drop (i + length vs) l))
+    ∙ sym (sets-eq vs l i (omega (arith, e)))
 
 -- ---- The bytes of a number
 
@@ -36,56 +41,6 @@ pub bytes_length : (k w : ℕ) → length (bytes_of k w) ≡ k
 unfolding bytes_of
 bytes_length zero w = refl
 bytes_length (suc k) w = ap suc (bytes_length k (w / 256))
-
-module _ (out₀ : Bytes) (at word : ℕ) where
-  pub record Spelling (out : Bytes) (left k : ℕ) : Type 0 where
-    pub within : k ≤ 8
-    pub length_kept : length out ≡ length out₀
-    pub to_come : sets out (at + k) (bytes_of (8 - k) left) ≡ sets out₀ at (bytes_of 8 word)
-
-  pub spelling_start : Spelling out₀ word 0
-  spelling_start = record {
-    within = zero-le;
-    length_kept = refl;
-    to_come = ap (λ (n : ℕ). sets out₀ n (bytes_of 8 word)) (omega arith);
-  }
-
-  module _ {out : Bytes} {left k : ℕ} (s : Spelling out left k) where
-    pub spelling_step : k < 8 → (x : ℕ) → x ≡ left % 256 → Spelling (set out (at + k) x) (left / 256) (k + 1)
-    unfolding bytes_of
-    spelling_step low x e =
-        let more : 8 - k ≡ suc (8 - (k + 1)) = omega arith in
-        let next : at + (k + 1) ≡ suc (at + k) = omega arith in
-        record {
-          within = omega arith;
-          length_kept = length-set out (at + k) x ∙ s.length_kept;
-          to_come = rw (next, e) (rw more at s.to_come);
-        }
-
-    pub spelling_end : 8 ≤ k → out ≡ sets out₀ at (bytes_of 8 word)
-    unfolding bytes_of
-    spelling_end h = let none : 8 - k ≡ 0 = omega arith in rw none at s.to_come
-
--- ---- Bytes as they are
-
-module _ (bytes out₀ : Bytes) where
-  pub record Listing (out : Bytes) (i : ℕ) : Type 0 where
-    pub length_kept : length out ≡ length out₀
-    pub to_come : sets out i (drop i bytes) ≡ sets out₀ 0 bytes
-
-  pub listing_start : Listing out₀ 0
-  listing_start = record { length_kept = refl; to_come = refl }
-
-  module _ {out : Bytes} {i : ℕ} (s : Listing out i) where
-    pub listing_step : i < length bytes → Listing (set out i (get_or bytes i 0)) (i + 1)
-    listing_step low =
-        record {
-          length_kept = length-set out i (get_or bytes i 0) ∙ s.length_kept;
-          to_come = rw add-one (ap (sets out i) (sym (drop-cons bytes i 0 low)) ∙ s.to_come);
-        }
-
-    pub listing_end : length bytes ≤ i → out ≡ sets out₀ 0 bytes
-    listing_end h = ap (sets out i) (sym (drop_of_length-le bytes h)) ∙ s.to_come
 
 -- ---- The bytes of a table
 
@@ -95,6 +50,10 @@ unfolding flat
 flat_length f w each [] = omega arith
 flat_length f w each (x ∷ xs) =
     length-append (f x) (flat f xs) ∙ rw (each x, flat_length f w each xs, mul-suc) (omega arith)
+
+-- The bytes of a place are within those of all.
+pub place_within : (w i n : ℕ) → i < n → w * i + w ≤ w * n
+place_within w i n h = let most : w * suc i ≤ w * n = mul-le-mul_left w h in omega (arith, mul-suc w i, most)
 
 module _ {A : Type 0} (f : A → Bytes) (w start : ℕ) (xs : List A) (out₀ : Bytes) where
   pub record Drawing (out : Bytes) (i : ℕ) : Type 0 where

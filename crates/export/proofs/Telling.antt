@@ -19,19 +19,13 @@ module _ (picture bytes buffer : Bytes) where
   untold short =
       record { gain = None; told = λ fits. absurd (true≢false (sym fits ∙ short)); written = rw short; count = rw short }
 
-  pub no_picture : (length picture ≡ 960 → ⊥) → GainTold picture bytes buffer buffer 0
-  no_picture other = untold (rw (ne_eqb (length picture) 960 other))
-
-  pub no_room : length picture ≡ 960 → length buffer < 2 → GainTold picture bytes buffer buffer 0
-  no_room long h = untold (rw (eq-eqb (length picture) 960 long, lt-leb 2 (length buffer) h))
-
-  module _ (p : Policy) (g : Option Permission) (long : length picture ≡ 960) (h : 2 ≤ length buffer)
-      (e : p ≡ policy_of picture) (s : OwnGainOf p bytes g) where
+  module _ (p : Policy) (g : Option Permission) (is : (length picture ≡ 960) × (p ≡ policy_of picture)) (h : 2 ≤ length buffer)
+      (s : OwnGainOf p bytes g) where
     fits : gain_fits picture buffer ≡ true
-    fits = rw (eq-eqb (length picture) 960 long, le-leb 2 (length buffer) h)
+    fits = rw (eq-eqb (length picture) 960 is.0, le-leb 2 (length buffer) h)
 
     shown : OwnGainOf (policy_of picture) bytes g
-    shown = subst (λ (p : Policy). OwnGainOf p bytes g) e s
+    shown = subst (λ (p : Policy). OwnGainOf p bytes g) is.1 s
 
     pub tells_none : g ≡ None → GainTold picture bytes buffer buffer 0
     tells_none none =

@@ -1,110 +1,68 @@
-// The picture of a policy. Each function writes one table to its place in a buffer, and leaves the other bytes as they are.
-ghost use Rattle.std.specs.Prelude.{◌≡◌, [], ◌∷◌, ◌+◌, ◌≤◌, length};
+// The picture of a policy.
+ghost use Rattle.std.specs.Prelude.{◌≡◌, List, ℕ, ◌+◌, ◌*◌, ◌≤◌};
 ghost use Rattle.std.proofs.lemmas.List.Edits.{sets};
-ghost use Rattle.export.specs.Picture.{flat, bytes_of, mark, row_bytes, appointment_bytes, rule_bytes, picture_of};
+ghost use Rattle.export.specs.Picture.{flat, row_bytes, appointment_bytes, rule_bytes, picture_of};
 
 use reach::{AccessRule, Appointment, Policy};
 
-// The mark of a place for access rules: 1 in use, 0 empty.
-fn mark(used: bool) -> u8
-    ensures { result ≡ mark used }
-{
-    if used { 1 } else { 0 }
+// A place of a table, in W bytes of the picture.
+trait Drawn<const W: usize>: Copy {
+    ghost bytes: { Self → List ℕ };
+
+    fn drawn(self) -> [u8; W]
+        ensures { result ≡ bytes self };
 }
 
-// Four bytes from a place on.
-pub fn put_four(out: &mut [u8], at: usize, first: u8, second: u8, third: u8, fourth: u8)
-    requires { at + 4 ≤ length out.old }
-    ensures { out.new ≡ sets out.old at (first ∷ second ∷ third ∷ fourth ∷ []) }
-{
-    out[at] = first;
-    out[at + 1] = second;
-    out[at + 2] = third;
-    out[at + 3] = fourth;
-}
+impl Drawn<8> for u64 {
+    ghost bytes = { row_bytes };
 
-// The eight bytes of a number from a place on, which its caller has found to be there.
-pub fn put_word(out: &mut [u8], at: usize, word: u64)
-    requires { at + 8 ≤ length out.old }
-    ensures { out.new ≡ sets out.old at (bytes_of 8 word) }
-{
-    let mut left = word;
-    let mut k: usize = 0;
-    while k < 8 {
-        out[at + k] = (left % 256) as u8;
-        left = left / 256;
-        k = k + 1;
+    fn drawn(self) -> [u8; 8] {
+        self.to_le_bytes()
     }
 }
 
-// The sorts.
-fn put_sorts(out: &mut [u8], sorts: [u8; 64])
-    requires { 960 ≤ length out.old }
-    ensures { out.new ≡ sets out.old 0 sorts }
-{
-    let mut i: usize = 0;
-    while i < 64 {
-        out[i] = sorts[i];
-        i = i + 1;
+impl Drawn<4> for Appointment {
+    ghost bytes = { appointment_bytes };
+
+    fn drawn(self) -> [u8; 4] {
+        [self.kind, self.holder, self.a, self.b]
     }
 }
 
-// The rows of the direct memberships.
-fn put_rows(out: &mut [u8], rows: [u64; 64])
-    requires { 960 ≤ length out.old }
-    ensures { out.new ≡ sets out.old 64 (flat row_bytes rows) }
-{
-    let mut x: usize = 0;
-    while x < 64 {
-        put_word(out, 64 + 8 * x, rows[x]);
-        x = x + 1;
+impl Drawn<4> for AccessRule {
+    ghost bytes = { rule_bytes };
+
+    fn drawn(self) -> [u8; 4] {
+        [
+            u8::from(self.used),
+            self.users,
+            self.targets,
+            self.operations,
+        ]
     }
 }
 
-// The appointments.
-fn put_appointments(out: &mut [u8], appointments: [Appointment; 32])
-    requires { 960 ≤ length out.old }
-    ensures { out.new ≡ sets out.old 576 (flat appointment_bytes appointments) }
+// A table from a place on: the bytes of its places, one after the other.
+fn put_table<T: Drawn<W>, const W: usize, const N: usize>(
+    out: &mut [u8; 960],
+    start: usize,
+    table: &[T; N],
+)
+    requires { start + W * N ≤ 960 }
+    ensures { out.new ≡ sets out.old start (flat T.bytes table.now) }
 {
-    let mut i: usize = 0;
-    while i < 32 {
-        let w = appointments[i];
-        put_four(out, 576 + 4 * i, w.kind, w.holder, w.a, w.b);
-        i = i + 1;
+    for (i, place) in table.iter().enumerate() {
+        let at = start + W * i;
+        out[at..at + W].copy_from_slice(&place.drawn());
     }
 }
 
-// The access rules.
-fn put_rules(out: &mut [u8], rules: [AccessRule; 64])
-    requires { 960 ≤ length out.old }
-    ensures { out.new ≡ sets out.old 704 (flat rule_bytes rules) }
+// The whole policy.
+pub fn put_policy(out: &mut [u8; 960], p: Policy)
+    ensures { out.new ≡ picture_of p }
 {
-    let mut i: usize = 0;
-    while i < 64 {
-        let r = rules[i];
-        put_four(
-            out,
-            704 + 4 * i,
-            mark(r.used),
-            r.users,
-            r.targets,
-            r.operations,
-        );
-        i = i + 1;
-    }
-}
-
-// The whole policy. Its caller has tested that there is room: a buffer that is too short gets nothing written, and is told so.
-pub fn put_policy(out: &mut [u8], p: Policy)
-    requires { 960 ≤ length out.old }
-    ensures { out.new ≡ sets out.old 0 (picture_of p) }
-{
-    let sorts = p.sorts;
-    let rows = p.memberships;
-    let appointments = p.appointments;
-    let rules = p.rules;
-    put_sorts(out, sorts);
-    put_rows(out, rows);
-    put_appointments(out, appointments);
-    put_rules(out, rules);
+    out[..64].copy_from_slice(&p.sorts);
+    put_table(out, 64, &p.memberships);
+    put_table(out, 576, &p.appointments);
+    put_table(out, 704, &p.rules);
 }

@@ -30,7 +30,7 @@ pub use questions::{
 pub use queues::{
     selkaum_queue_join, selkaum_queue_leave, selkaum_queue_start, selkaum_queue_tick,
 };
-use reading::policy_of;
+use reading::opened;
 use snapshot::{card_code, read_card, write_card};
 
 // The lines for the records of an input of any length into out, as the program prints them for one that is not too long. A buffer that is
@@ -58,18 +58,21 @@ pub extern "C" fn selkaum_lines(input: &[u8]) -> usize
 pub extern "C" fn selkaum_judge(policy: &[u8], bytes: &[u8], answer: &mut [u8]) -> usize
     ensures { Judged policy.now bytes.now answer.old answer.new result }
 {
-    if policy.len() != 960 {
+    let Some(p) = opened(policy) else {
+        return 0;
+    };
+    let Some((picture, behind)) = answer.split_first_chunk_mut() else {
+        return 0;
+    };
+    if behind.len() < 2 {
         return 0;
     }
-    if answer.len() < 962 {
-        return 0;
-    }
-    let judged = judge(policy_of(policy), bytes);
+    let judged = judge(p, bytes);
     let verdict = judged.verdict;
     let after = judged.policy;
-    put_policy(answer, after);
-    answer[960] = code_of(verdict);
-    answer[961] = cited_of(verdict);
+    put_policy(picture, after);
+    behind[0] = code_of(verdict);
+    behind[1] = cited_of(verdict);
     962
 }
 
@@ -89,13 +92,13 @@ pub extern "C" fn selkaum_run(
         codes.new cited.new policy.new result }
     ensures founding_demand3 { FoundingDemand3 (handed bytes.now ends.now) }
 {
-    if policy.len() < 960 {
+    let Some(picture) = policy.first_chunk_mut() else {
         return 0;
-    }
+    };
     let Some(after) = list::run_list(bytes, ends, codes, cited) else {
         return 0;
     };
-    put_policy(policy, after);
+    put_policy(picture, after);
     960
 }
 
@@ -106,13 +109,13 @@ pub extern "C" fn selkaum_run(
 pub extern "C" fn selkaum_gain(policy: &[u8], bytes: &[u8], gain: &mut [u8]) -> usize
     ensures { GainTold policy.now bytes.now gain.old gain.new result }
 {
-    if policy.len() != 960 {
+    let Some(p) = opened(policy) else {
         return 0;
-    }
+    };
     if gain.len() < 2 {
         return 0;
     }
-    match own_gain_of(policy_of(policy), bytes) {
+    match own_gain_of(p, bytes) {
         Some(Permission { target, operation }) => {
             gain[0] = target;
             gain[1] = operation;
@@ -129,13 +132,13 @@ pub extern "C" fn selkaum_gain(policy: &[u8], bytes: &[u8], gain: &mut [u8]) -> 
 pub extern "C" fn selkaum_write_card(policy: &[u8], card: &mut [u8], code: &mut [u8]) -> usize
     ensures { CardWritten policy.now card.old code.old card.new code.new result }
 {
-    if policy.len() != 960 {
+    let Some(p) = opened(policy) else {
         return 0;
-    }
+    };
     if code.len() < 1 {
         return 0;
     }
-    let written = write_card(policy_of(policy), card);
+    let written = write_card(p, card);
     code[0] = card_code(&written);
     written.unwrap_or(0)
 }
@@ -147,15 +150,18 @@ pub extern "C" fn selkaum_write_card(policy: &[u8], card: &mut [u8], code: &mut 
 pub extern "C" fn selkaum_read_card(policy: &[u8], card: &[u8], answer: &mut [u8]) -> usize
     ensures { CardRead policy.now card.now answer.old answer.new result }
 {
-    if policy.len() != 960 {
+    let Some(p) = opened(policy) else {
         return 0;
-    }
-    if answer.len() < 961 {
+    };
+    let Some((picture, behind)) = answer.split_first_chunk_mut() else {
+        return 0;
+    };
+    if behind.len() < 1 {
         return 0;
     }
     let read = read_card(card);
     let code = card_code(&read);
-    put_policy(answer, read.unwrap_or(policy_of(policy)));
-    answer[960] = code;
+    put_policy(picture, read.unwrap_or(p));
+    behind[0] = code;
     961
 }

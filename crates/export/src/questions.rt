@@ -1,42 +1,28 @@
 // Questions on the policy of a picture, for C and Rust: each is answered by the policy's own method. Where the picture isn't 960 bytes
 // or the buffer is too short for the answer, nothing is written, and the result is 0. The founding's picture is here too.
-ghost use Rattle.std.specs.Prelude.{◌≡◌, [], ◌∷◌};
+ghost use Rattle.std.specs.Prelude.{◌≡◌, [], ◌∷◌, leb, length};
 ghost use Rattle.reach.specs.Tables.{view, sort, sort_number};
+ghost use Rattle.reach.specs.Tests.{◌⇒◌∥◌};
 ghost use Rattle.reach.specs.Reach.{Under};
 ghost use Rattle.reach.specs.Privileges.{Owns, Manages, Administers, Permitted, permitting};
+ghost use Rattle.list.specs.Filling.{over};
 ghost use Rattle.export.specs.Picture.{policy_of, bytes_of};
 ghost use Rattle.export.specs.Asked.{AnswerTold, SetTold, InitialTold, place_byte};
 
-use crate::drawing::{put_policy, put_word};
-use crate::reading::policy_of;
+use crate::drawing::put_policy;
+use crate::reading::opened;
 use reach::{Policy, Sort};
 
-// A set into the first eight bytes of out, the lowest first.
-fn tell_set(picture: &[u8], set: u64, out: &mut [u8]) -> usize
-    ensures { AnswerTold picture.now (bytes_of 8 set) out.old out.new result }
+// An answer over the first bytes of out, and how many they are.
+fn tell<const N: usize>(answer: [u8; N], out: &mut [u8]) -> usize
+    ensures written { out.new ≡ (leb N (length out.old) ⇒ over answer.entry out.old ∥ out.old) }
+    ensures count { result ≡ (leb N (length out.old) ⇒ N ∥ 0) }
 {
-    if picture.len() != 960 {
+    let Some(place) = out.first_chunk_mut() else {
         return 0;
-    }
-    if out.len() < 8 {
-        return 0;
-    }
-    put_word(out, 0, set);
-    8
-}
-
-// A number into the first byte of out.
-fn tell_byte(picture: &[u8], byte: u8, out: &mut [u8]) -> usize
-    ensures { AnswerTold picture.now (byte ∷ []) out.old out.new result }
-{
-    if picture.len() != 960 {
-        return 0;
-    }
-    if out.len() < 1 {
-        return 0;
-    }
-    out[0] = byte;
-    1
+    };
+    *place = answer;
+    N
 }
 
 // A place of a table as a byte: 255 for none.
@@ -59,10 +45,10 @@ fn sort_byte(sort: Option<Sort>) -> u8
 pub extern "C" fn selkaum_initial(policy: &mut [u8]) -> usize
     ensures { InitialTold policy.old policy.new result }
 {
-    if policy.len() < 960 {
+    let Some(picture) = policy.first_chunk_mut() else {
         return 0;
-    }
-    put_policy(policy, Policy::initial());
+    };
+    put_policy(picture, Policy::initial());
     960
 }
 
@@ -71,8 +57,10 @@ pub extern "C" fn selkaum_initial(policy: &mut [u8]) -> usize
 pub extern "C" fn selkaum_sort(policy: &[u8], x: u8, out: &mut [u8]) -> usize
     ensures { AnswerTold policy.now (sort (policy_of policy.now) x ∷ []) out.old out.new result }
 {
-    let sort = policy_of(policy).sort(x);
-    tell_byte(policy, sort_byte(sort), out)
+    let Some(p) = opened(policy) else {
+        return 0;
+    };
+    tell([sort_byte(p.sort(x))], out)
 }
 
 // All that x is under, itself too. An empty object, and a number past the table, is under nothing. Eight bytes.
@@ -80,8 +68,10 @@ pub extern "C" fn selkaum_sort(policy: &[u8], x: u8, out: &mut [u8]) -> usize
 pub extern "C" fn selkaum_above(policy: &[u8], x: u8, out: &mut [u8]) -> usize
     ensures { SetTold policy.now (λ p g. Under (view p) x g) out.old out.new result }
 {
-    let above = policy_of(policy).above(x);
-    tell_set(policy, above, out)
+    let Some(p) = opened(policy) else {
+        return 0;
+    };
+    tell(p.above(x).to_le_bytes(), out)
 }
 
 // All that is under g, itself too. Nothing is under an empty object or a number past the table. Eight bytes.
@@ -89,8 +79,10 @@ pub extern "C" fn selkaum_above(policy: &[u8], x: u8, out: &mut [u8]) -> usize
 pub extern "C" fn selkaum_below(policy: &[u8], g: u8, out: &mut [u8]) -> usize
     ensures { SetTold policy.now (λ p x. Under (view p) x g) out.old out.new result }
 {
-    let below = policy_of(policy).under_set(g);
-    tell_set(policy, below, out)
+    let Some(p) = opened(policy) else {
+        return 0;
+    };
+    tell(p.under_set(g).to_le_bytes(), out)
 }
 
 // All that u owns. Who is no user owns nothing, and holds nothing else. Eight bytes.
@@ -98,8 +90,10 @@ pub extern "C" fn selkaum_below(policy: &[u8], g: u8, out: &mut [u8]) -> usize
 pub extern "C" fn selkaum_owned(policy: &[u8], u: u8, out: &mut [u8]) -> usize
     ensures { SetTold policy.now (λ p x. Owns (view p) u x) out.old out.new result }
 {
-    let owned = policy_of(policy).owned(u);
-    tell_set(policy, owned, out)
+    let Some(p) = opened(policy) else {
+        return 0;
+    };
+    tell(p.owned(u).to_le_bytes(), out)
 }
 
 // All that u manages. Eight bytes.
@@ -107,8 +101,10 @@ pub extern "C" fn selkaum_owned(policy: &[u8], u: u8, out: &mut [u8]) -> usize
 pub extern "C" fn selkaum_managed(policy: &[u8], u: u8, out: &mut [u8]) -> usize
     ensures { SetTold policy.now (λ p x. Manages (view p) u x) out.old out.new result }
 {
-    let managed = policy_of(policy).managed(u);
-    tell_set(policy, managed, out)
+    let Some(p) = opened(policy) else {
+        return 0;
+    };
+    tell(p.managed(u).to_le_bytes(), out)
 }
 
 // All b such that u administers the pair (a, b). Eight bytes.
@@ -116,8 +112,10 @@ pub extern "C" fn selkaum_managed(policy: &[u8], u: u8, out: &mut [u8]) -> usize
 pub extern "C" fn selkaum_administered(policy: &[u8], u: u8, a: u8, out: &mut [u8]) -> usize
     ensures { SetTold policy.now (λ p b. Administers (view p) u a b) out.old out.new result }
 {
-    let administered = policy_of(policy).administered(u, a);
-    tell_set(policy, administered, out)
+    let Some(p) = opened(policy) else {
+        return 0;
+    };
+    tell(p.administered(u, a).to_le_bytes(), out)
 }
 
 // The targets on which u is permitted operation k. There is none for an operation above 7. Eight bytes.
@@ -125,8 +123,10 @@ pub extern "C" fn selkaum_administered(policy: &[u8], u: u8, a: u8, out: &mut [u
 pub extern "C" fn selkaum_permitted(policy: &[u8], u: u8, k: u8, out: &mut [u8]) -> usize
     ensures { SetTold policy.now (λ p x. Permitted (view p) u k x) out.old out.new result }
 {
-    let permitted = policy_of(policy).permitted(u, k);
-    tell_set(policy, permitted, out)
+    let Some(p) = opened(policy) else {
+        return 0;
+    };
+    tell(p.permitted(u, k).to_le_bytes(), out)
 }
 
 // The place of the rule that a USE of operation k on x by u would cite, 255 if he is not permitted it. One byte.
@@ -135,6 +135,8 @@ pub extern "C" fn selkaum_permitting(policy: &[u8], u: u8, k: u8, x: u8, out: &m
     ensures { AnswerTold policy.now (place_byte (permitting (policy_of policy.now) u k x) ∷ [])
         out.old out.new result }
 {
-    let place = place_byte(policy_of(policy).permitting(u, k, x));
-    tell_byte(policy, place, out)
+    let Some(p) = opened(policy) else {
+        return 0;
+    };
+    tell([place_byte(p.permitting(u, k, x))], out)
 }

@@ -9,7 +9,7 @@ use gains::put_verdict;
 use reach::{Appointment, Over, Policy, Post, appointment_at, rule_at};
 use rules::{Refusal, Request, Verdict};
 
-// The number of no object, where there is no second one.
+// The number of no object, where there is no second one: past the table, so that nothing is held over it.
 const NONE: u8 = 255;
 
 // Owns or manages.

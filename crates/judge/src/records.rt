@@ -5,7 +5,7 @@ ghost use Rattle.rules.specs.Records.{length_of, request};
 use frame::{byte, kind_field};
 use rules::Request;
 
-// The length of a record of each kind. A number that is no kind has none: no record has 0 bytes.
+// The length of a record of each kind. A number that is no kind has none: 0 says so, as the rules define it (D44), and no record has 0 bytes.
 pub fn length_of(kind: usize) -> usize
     ensures { result ≡ length_of kind }
 {
@@ -22,7 +22,8 @@ pub fn length_of(kind: usize) -> usize
     }
 }
 
-// The request of a record, its sender aside. A number that is no kind is refused before; what stands for it is off the sheet.
+// The request of a record, its sender aside. A number that is no kind is refused before; what stands for it is off the sheet, and no Option, as
+// the rules define it (D44).
 pub fn request_of(b: &[u8]) -> Request
     ensures { result ≡ request b.now }
 {

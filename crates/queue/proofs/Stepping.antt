@@ -1,39 +1,38 @@
 -- What each event comes to on each way through it: the facts that were tested on the way pick one row of the
 -- definition.
-use mathlib.Core.Path.{◌≡◌, sym, ap}
-use mathlib.Core.Bool.{true, false}
+use mathlib.Core.Path.{◌≡◌, refl, sym, ap}
+use mathlib.Core.Bool.{Bool, true, false}
 use mathlib.Core.List.{[]}
-use Prim.Native.Nat.{ℕ, ◌-◌, ◌<◌, ◌≤◌}
+use Prim.Native.Nat.{ℕ, max, min, ◌-◌, ◌<◌, ◌≤◌}
 use native.Mathlib.Omega.{arith}
+use lib.Dec.{eqb, ltb}
+use Rattle.reach.specs.Tests.{◌⇒◌∥◌}
 use lib.ListN.{length}
 use lib.Seq.{length-take-le}
-use borrow.Author.Tests.{lt-ltb, le-ltb, eq-eqb, ne_eqb}
+use borrow.Author.Tests.{eq-eqb, ne_eqb, eqb-true, eqb-false, ltb-true, ltb-false}
 use Rattle.reach.specs.declared.Policy.{Policy}
 use Rattle.access.specs.Using.{use_code}
 use Rattle.access.proofs.UseTable.{use_permitted}
 use Rattle.queue.specs.declared.Queue.{Queue}
-use Rattle.queue.specs.declared.rows.Row.{Row}
 use Rattle.queue.specs.Line.{free, held, counted, may_transmit, is_in, without, called}
 use Rattle.queue.specs.Stored.{is_held, line_of, waiters, queue_of, may_at, code_at, after_join, after_leave, after_tick}
-use Rattle.queue.specs.Rows.{row_of, row_add, held_queue, joined_as}
-use Rattle.queue.proofs.Placing.{row_added}
+use Rattle.queue.specs.Rows.{followed, joined_as}
+use Rattle.queue.proofs.Placing.{stored_more}
 
 -- ---- N as it counts
 
-module _ (n : ℕ) where
-  pub counted_none : n ≡ 0 → 1 ≡ counted n
-  unfolding counted
-  counted_none e = sym (rw (eq-eqb n 0 e))
-
-  pub counted_many : 600 < n → 600 ≡ counted n
-  unfolding counted
-  counted_many l =
-      let some : n ≡ 0 → ⊥ = λ e. omega (arith, e) in
-      sym (rw (ne_eqb n 0 some, lt-ltb 600 n l))
-
-  pub counted_few : (n ≡ 0 → ⊥) → n ≤ 600 → n ≡ counted n
-  unfolding counted
-  counted_few some l = sym (rw (ne_eqb n 0 some, le-ltb 600 n l))
+-- N, brought between 1 and 600.
+pub counted_between : (n : ℕ) → max 1 (min n 600) ≡ counted n
+unfolding counted
+counted_between n = go (eqb n 0) (ltb 600 n) refl refl
+  where
+    go : (a b : Bool) → eqb n 0 ≡ a → ltb 600 n ≡ b → max 1 (min n 600) ≡ (a ⇒ 1 ∥ b ⇒ 600 ∥ n)
+    go true b e f = let none : n ≡ 0 = eqb-true n 0 e in omega arith
+    go false true e f = let many : 600 < n = ltb-true 600 n f in omega arith
+    go false false e f =
+        let some : n ≡ 0 → ⊥ = eqb-false n 0 e in
+        let few : n ≤ 600 = ltb-false 600 n f in
+        omega (arith, some)
 
 -- ---- What a record says
 
@@ -57,7 +56,7 @@ module _ (q : Queue) (p : Policy) (u c : ℕ) (asked : c ≡ use_code p u q.gear
 
   module _ (zero : c ≡ 0) where
     -- He is the only one in the line, and permitted.
-    pub join_free : is_held q ≡ false → after_join q p u ≡ joined_as (held_queue q u (counted q.turn) (row_of [])) 0
+    pub join_free : is_held q ≡ false → after_join q p u ≡ joined_as (queue_of q (held u (counted q.turn) [])) 0
     unfolding after_join code_at called may_transmit
     join_free f = simp (says_free q f, ← use_permitted p u q.gear 2, ← asked, eq-eqb c 0 zero)
 
@@ -77,12 +76,12 @@ module _ (q : Queue) (p : Policy) (u c : ℕ) (asked : c ≡ use_code p u q.gear
           join_full l = simp (says_held q e, ← asked, eq-eqb c 0 zero, ne_eqb _ _ other, new, eq-eqb _ _ l)
 
           pub join_last : length (waiters q) < 8
-              → after_join q p u ≡ joined_as (held_queue q q.holder q.left (row_add (row_of (waiters q)) u)) 0
+              → after_join q p u ≡ joined_as (followed (queue_of q (held q.holder q.left (waiters q))) u) 0
           unfolding after_join code_at
           join_last l =
               let room : length (waiters q) ≡ 8 → ⊥ = λ f. omega (arith, f) in
               simp (says_held q e, ← asked, eq-eqb c 0 zero, ne_eqb _ _ other, new, ne_eqb _ _ room)
-              (ap (λ (r : Row). joined_as (held_queue q q.holder q.left r) 0) (sym (row_added (waiters q) u l)))
+              (ap (λ (r : Queue). joined_as r 0) (sym (stored_more q q.holder q.left (waiters q) u l)))
 
 -- ---- A leave
 
@@ -102,7 +101,7 @@ module _ (q : Queue) (p : Policy) (u : ℕ) where
       leave_absent n = simp (says_held q e, ne_eqb _ _ other, n)
 
       pub leave_waiter : is_in u (waiters q) ≡ true
-          → after_leave q p u ≡ held_queue q q.holder q.left (row_of (without u (waiters q)))
+          → after_leave q p u ≡ queue_of q (held q.holder q.left (without u (waiters q)))
       unfolding after_leave
       leave_waiter n = simp (says_held q e, ne_eqb _ _ other, n)
 
@@ -118,6 +117,6 @@ module _ (q : Queue) (p : Policy) where
     unfolding after_tick
     tick_last h = simp (says_held q e, eq-eqb _ _ h)
 
-    pub tick_more : (q.left ≡ 1 → ⊥) → after_tick q p ≡ held_queue q q.holder (q.left - 1) (row_of (waiters q))
+    pub tick_more : (q.left ≡ 1 → ⊥) → after_tick q p ≡ queue_of q (held q.holder (q.left - 1) (waiters q))
     unfolding after_tick
     tick_more h = simp (says_held q e, ne_eqb _ _ h)

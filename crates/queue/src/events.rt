@@ -1,11 +1,11 @@
 // What each event makes of a record, by value.
-ghost use Rattle.std.specs.Prelude.{◌≡◌, ◌≤◌};
+ghost use Rattle.std.specs.Prelude.{◌≡◌, [], ◌<◌, ◌≤◌, length};
 ghost use Rattle.access.specs.Using.{use_code};
-ghost use Rattle.queue.specs.Line.{free, counted, may_transmit, called};
+ghost use Rattle.queue.specs.Line.{free, held, counted, may_transmit, called};
 ghost use Rattle.queue.specs.Stored.{is_held, waiters, queue_of, may_at, after_join, after_leave, after_tick};
-ghost use Rattle.queue.specs.Rows.{held_queue, joined_as};
+ghost use Rattle.queue.specs.Rows.{followed, joined_as};
 
-use crate::rows::{Row, among, fits, others, those};
+use crate::rows::fits;
 use crate::{Joined, Queue};
 use access::use_code;
 use reach::Policy;
@@ -28,27 +28,27 @@ fn may_transmit(p: Policy, gear: u8, u: u8) -> bool
 fn counted(turn: u16) -> u16
     ensures { result ≡ counted turn }
 {
-    if turn == 0 {
-        return 1;
-    }
-    if turn > 600 {
-        return 600;
-    }
-    turn
+    turn.clamp(1, 600)
 }
 
 // A join with its number.
 fn answered(queue: Queue, code: u8) -> Joined
     ensures { result ≡ joined_as queue code }
 {
-    Joined {
-        queue: queue,
-        code: code,
-    }
+    Joined { queue, code }
 }
 
 impl Queue {
-    // Whether the radio is held, by a record with nothing wrong in it.
+    // Those who wait, in their order.
+    fn waiters(&self) -> &[u8]
+        ensures value { result.now ≡ waiters self.now }
+        ensures few { length result.now ≤ 8 }
+    {
+        &self.waiting[..usize::from(self.count.min(8))]
+    }
+
+    // Whether the radio is held, by a record with nothing wrong in it: one test after the other, each of which the ones behind it may count
+    // on.
     fn is_held(self) -> bool
         ensures { result ≡ is_held self }
     {
@@ -67,12 +67,11 @@ impl Queue {
         if self.holder >= 64 {
             return false;
         }
-        let a = self.waiting;
-        let to = self.count as usize;
-        if among(a, 0, to, self.holder) {
+        let waiters = self.waiters();
+        if waiters.contains(&self.holder) {
             return false;
         }
-        fits(a, to)
+        fits(waiters)
     }
 
     // The radio free, and nobody waits.
@@ -82,36 +81,45 @@ impl Queue {
         Queue::start(self.gear, self.turn)
     }
 
-    // The radio held, for so many ticks, and those of the row wait.
-    fn given(self, holder: u8, left: u16, row: Row) -> Self
-        ensures { result ≡ held_queue self holder left row }
+    // The radio held, for so many ticks, and these wait.
+    fn given(self, holder: u8, left: u16, waiters: &[u8]) -> Self
+        requires { length waiters.now ≤ 8 }
+        ensures { result ≡ queue_of self (held holder left waiters.now) }
     {
-        let waiting = row.waiting;
+        let count = waiters.len();
+        let mut waiting = [0; 8];
+        waiting[..count].copy_from_slice(waiters);
         Self {
             gear: self.gear,
             turn: self.turn,
             held: 1,
-            holder: holder,
-            left: left,
-            count: row.count,
-            waiting: waiting,
+            holder,
+            left,
+            count: count as u8,
+            waiting,
         }
+    }
+
+    // One more waits, behind the others.
+    fn followed(mut self, u: u8) -> Self
+        requires { self.count < 8 }
+        ensures { result ≡ followed self u }
+    {
+        self.waiting[usize::from(self.count)] = u;
+        self.count += 1;
+        self
     }
 
     // The call: the first waiter who is permitted gets the radio for a whole turn, and all ahead of him are struck.
     fn call(self, p: Policy) -> Self
-        requires { self.count ≤ 8 }
         ensures { result ≡ queue_of self (called (may_at self p) (counted self.turn) (waiters self)) }
     {
-        let a = self.waiting;
-        let to = self.count as usize;
-        let mut i = 0;
-        while i < to {
-            let w = a[i];
-            if may_transmit(p, self.gear, w) {
-                return self.given(w, counted(self.turn), those(a, i + 1, to));
+        let mut rest = self.waiters();
+        while let Some((w, behind)) = rest.split_first() {
+            if may_transmit(p, self.gear, *w) {
+                return self.given(*w, counted(self.turn), behind);
             }
-            i += 1;
+            rest = behind;
         }
         self.freed()
     }
@@ -125,21 +133,19 @@ impl Queue {
             return answered(self, refused);
         }
         if !self.is_held() {
-            return answered(self.given(u, counted(self.turn), Row::empty()), 0);
+            return answered(self.given(u, counted(self.turn), &[]), 0);
         }
         if self.holder == u {
             return answered(self, 15);
         }
-        let a = self.waiting;
-        let to = self.count as usize;
-        if among(a, 0, to, u) {
+        let waiters = self.waiters();
+        if waiters.contains(&u) {
             return answered(self, 15);
         }
-        if to == 8 {
+        if waiters.len() == 8 {
             return answered(self, 16);
         }
-        let row = those(a, 0, to).added(u);
-        answered(self.given(self.holder, self.left, row), 0)
+        answered(self.given(self.holder, self.left, waiters).followed(u), 0)
     }
 
     // The record after u has left.
@@ -152,12 +158,17 @@ impl Queue {
         if self.holder == u {
             return self.call(p);
         }
-        let a = self.waiting;
-        let to = self.count as usize;
-        if !among(a, 0, to, u) {
+        let waiters = self.waiters();
+        if !waiters.contains(&u) {
             return self;
         }
-        self.given(self.holder, self.left, others(a, to, u))
+        let mut after = self.given(self.holder, self.left, &[]);
+        for w in waiters {
+            if *w != u {
+                after = after.followed(*w);
+            }
+        }
+        after
     }
 
     // The record after a tick.
@@ -170,8 +181,6 @@ impl Queue {
         if self.left == 1 {
             return self.call(p);
         }
-        let a = self.waiting;
-        let to = self.count as usize;
-        self.given(self.holder, self.left - 1, those(a, 0, to))
+        self.given(self.holder, self.left - 1, self.waiters())
     }
 }

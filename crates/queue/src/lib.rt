@@ -43,8 +43,8 @@ impl Queue {
         ensures wait_bound_from { WaitBoundFrom result }
     {
         Self {
-            gear: gear,
-            turn: turn,
+            gear,
+            turn,
             held: 0,
             holder: 0,
             left: 0,

@@ -2,7 +2,7 @@
 use mathlib.Core.Path.{◌≡◌, refl, sym, ap, ◌∙◌}
 use mathlib.Core.Bool.{Bool, true, false}
 use mathlib.Core.List.{List, [], ◌∷◌, ◌++◌, append_assoc, append-nil}
-use Prim.Native.Nat.{ℕ, ◌+◌, ◌<◌, min}
+use Prim.Native.Nat.{ℕ, ◌+◌, ◌<◌, ◌≤◌}
 use native.Mathlib.Numerals.{add-one}
 use native.Mathlib.Omega.{arith}
 use lib.Dec.{leb}
@@ -29,13 +29,7 @@ pub spaced_next : (ws : List ℕ) (i : ℕ) {a b c d : Bytes} {n m k r byte w : 
 spaced_next ws i low so_far space e number f =
     rw (add-one, take-suc ws i 0 low, spaced_last) (wrote_then so_far (wrote_then (rw e at space) (rw f at number)))
 
--- All are written: those at the places that are looked at.
-pub spaced_end : (ws : List ℕ) (i count : ℕ) {a b : Bytes} {n m : ℕ} → i ≡ min count (length ws)
-    → Wrote a n (spaced (take i ws)) b m → Wrote a n (spaced (take count ws)) b m
-spaced_end ws i count e wrote = wrote_as (ap spaced (go (leb (length ws) count) refl)) wrote
-  where
-    go : (all : Bool) → leb (length ws) count ≡ all → take i ws ≡ take count ws
-    go true h =
-        let all = leb-true (length ws) count h in
-        take_all i ws (omega (arith, all, e)) ∙ sym (take_all count ws all)
-    go false h = let same : i ≡ count = omega (arith, leb-false (length ws) count h, e) in rw same
+-- All are written.
+pub spaced_end : (ws : List ℕ) (i : ℕ) {a b : Bytes} {n m : ℕ} → length ws ≤ i → Wrote a n (spaced (take i ws)) b m
+    → Wrote a n (spaced ws) b m
+spaced_end ws i h wrote = wrote_as (ap spaced (take_all i ws h)) wrote

@@ -73,7 +73,7 @@ fn misfit(club: Club) -> Told
 fn turn_of(low: u8, high: u8) -> u16
     ensures { result ≡ little_endian low high }
 {
-    low as u16 + 256 * (high as u16)
+    u16::from_le_bytes([low, high])
 }
 
 // START: the line is set anew, at the gear and with the N of the record.
@@ -142,18 +142,11 @@ fn judged(club: Club, bytes: &[u8]) -> Told
 pub fn taken_in(club: Club, bytes: &[u8]) -> Told
     ensures { result ≡ told_of club bytes.now }
 {
-    let kind = kind_field(bytes);
-    if kind == START {
-        return started(club, bytes);
+    match kind_field(bytes) {
+        START => started(club, bytes),
+        JOIN => joined(club, bytes),
+        LEAVE => left(club, bytes),
+        TICK => ticked(club, bytes),
+        _ => judged(club, bytes),
     }
-    if kind == JOIN {
-        return joined(club, bytes);
-    }
-    if kind == LEAVE {
-        return left(club, bytes);
-    }
-    if kind == TICK {
-        return ticked(club, bytes);
-    }
-    judged(club, bytes)
 }

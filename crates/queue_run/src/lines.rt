@@ -1,6 +1,6 @@
 // The lines that the program prints. Each function writes from n on and answers where the next byte goes; what there is
 // no room for is cut off.
-ghost use Rattle.std.specs.Prelude.{◌≡◌, min, take};
+ghost use Rattle.std.specs.Prelude.{◌≡◌, take};
 ghost use Rattle.text.specs.Text.{Wrote};
 ghost use Rattle.queue_run.specs.Output.{spaced, queue_text, event_line, told_line};
 
@@ -8,27 +8,23 @@ use crate::club::Told;
 use queue::Queue;
 use text::{put_byte, put_bytes, put_line, put_number, put_small};
 
-// How many of the eight places are looked at.
-fn places(count: u8) -> usize
-    ensures { result ≡ min count 8 }
-{
-    if count < 8 { count as usize } else { 8 }
-}
-
 // The waiters in their order, a space before each.
-fn put_waiters(out: &mut [u8], n: usize, waiting: [u8; 8], count: u8) -> usize
-    ensures { Wrote out.old n (spaced (take count waiting)) out.new result }
+fn put_waiters(out: &mut [u8], n: usize, waiters: &[u8]) -> usize
+    ensures { Wrote out.old n (spaced waiters.now) out.new result }
 {
-    let to = places(count);
     let mut at = n;
-    let mut i: usize = 0;
-    while i < to {
-        let w = waiting[i];
+    for w in waiters {
         let after_space = put_byte(out, at, b' ');
-        at = put_small(out, after_space, w);
-        i = i + 1;
+        at = put_small(out, after_space, *w);
     }
     at
+}
+
+// Those who wait: at most eight places are looked at.
+fn waiters(queue: &Queue) -> &[u8]
+    ensures { result.now ≡ take queue.now.count queue.now.waiting }
+{
+    &queue.waiting[..usize::from(queue.count.min(8))]
 }
 
 // Who holds the radio, the ticks left of his turn, and the waiters; of a free radio 255 and 0.
@@ -41,8 +37,7 @@ fn put_queue(out: &mut [u8], n: usize, queue: Queue) -> usize
     let after_holder = put_small(out, n, queue.holder);
     let at_left = put_byte(out, after_holder, b' ');
     let after_left = put_number(out, at_left, queue.left as usize);
-    let waiting = queue.waiting;
-    put_waiters(out, after_left, waiting, queue.count)
+    put_waiters(out, after_left, waiters(&queue))
 }
 
 // The line of an event.

@@ -1,5 +1,6 @@
 // A policy answers its questions itself: what a user owns, manages and administers, and what he is permitted. What is asked of a named
-// object climbs from it; what is asked of every object at once goes by rounds over the rows.
+// object climbs from it; what is asked of every object at once goes by rounds over the rows. The three that the judge asks take the tables that
+// they need by `let`: to lend what is in a policy held by value copies all of it.
 ghost use Rattle.std.specs.Prelude.{◌≡◌};
 ghost use Rattle.reach.specs.Words.{SetOf};
 ghost use Rattle.reach.specs.Tables.{view};
@@ -10,7 +11,7 @@ ghost use Rattle.reach.specs.Asking.{PostsOf, held_of, PlacingOf};
 use crate::appointments::{covers_pair, given_to, posts_of, sides_of};
 use crate::rounds::descend;
 use crate::ruling::{covering, granted_over};
-use crate::{Held, Over, Placing, Policy, Posts};
+use crate::{Held, Objects, Over, Placing, Policy, Posts};
 
 impl Policy {
     // What u is appointed over, as an owner and as a manager: nothing, if he is no user.
@@ -56,10 +57,16 @@ impl Policy {
     pub fn held(self, u: u8, x: u8, y: u8) -> Held
         ensures { result ≡ held_of self u x y }
     {
-        let objects = self.objects();
+        let sorts = self.sorts;
+        let memberships = self.memberships;
+        let appointments = self.appointments;
+        let objects = Objects {
+            sorts: &sorts,
+            memberships: &memberships,
+        };
         let over_x = objects.above(x);
         let over_y = objects.above(y);
-        let given = given_to(&self.appointments, u, over_x, over_y);
+        let given = given_to(&appointments, u, over_x, over_y);
         let user = objects.is_user(u);
         let first = Over {
             owned: user & (given.posts.owner & over_x != 0),
@@ -82,7 +89,12 @@ impl Policy {
     pub fn placing(self, u: u8, x: u8, y: u8) -> Placing
         ensures { PlacingOf self u x y result }
     {
-        let objects = self.objects();
+        let sorts = self.sorts;
+        let memberships = self.memberships;
+        let objects = Objects {
+            sorts: &sorts,
+            memberships: &memberships,
+        };
         Placing {
             posts: self.posts(u),
             first: objects.above(x),
@@ -131,11 +143,17 @@ impl Policy {
     pub fn permitting(self, u: u8, k: u8, x: u8) -> Option<u8>
         ensures { result ≡ permitting self u k x }
     {
-        let objects = self.objects();
+        let sorts = self.sorts;
+        let memberships = self.memberships;
+        let rules = self.rules;
+        let objects = Objects {
+            sorts: &sorts,
+            memberships: &memberships,
+        };
         if !(objects.is_user(u) & objects.is_target(x) & (k < 8)) {
             return None;
         }
-        covering(&self.rules, k, objects.above(u), objects.above(x))
+        covering(&rules, k, objects.above(u), objects.above(x))
     }
 
     // Whether some object in use has no owner.

@@ -41,18 +41,8 @@ fn blank() -> Policy
     Policy {
         sorts: [0; 64],
         memberships: [0; 64],
-        appointments: [Appointment {
-            kind: 0,
-            holder: 0,
-            a: 0,
-            b: 0,
-        }; 32],
-        rules: [AccessRule {
-            used: false,
-            users: 0,
-            targets: 0,
-            operations: 0,
-        }; 64],
+        appointments: [Appointment::default(); 32],
+        rules: [AccessRule::default(); 64],
     }
 }
 

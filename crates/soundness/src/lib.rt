@@ -7,7 +7,7 @@ ghost use Rattle.reach.specs.Tables.{view};
 ghost use Rattle.soundness.specs.Soundness.{Sound};
 ghost use Rattle.soundness.specs.Masked.{RowIn, RowsIn, AppointmentIn, AppointmentsIn, RuleIn, RulesIn};
 
-use reach::{AccessRule, Appointment, Masks, Policy, has};
+use reach::{AccessRule, Appointment, Masks, Policy, Post, has};
 
 // The tests below take the masks as a parameter and are no methods of them: `Masks` is a type of reach, and a type around it would say no more.
 
@@ -40,7 +40,7 @@ fn appointment_fits(w: Appointment, m: Masks) -> bool
     if !w.standing() {
         return true;
     }
-    if w.kind == 3 {
+    if w.kind == Post::Administrator as u8 {
         return has(m.users, w.holder) & has(m.groups, w.a) & has(m.groups, w.b);
     }
     has(m.users, w.holder) & has(m.groups, w.a) & (w.b == 0)

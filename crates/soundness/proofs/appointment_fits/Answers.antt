@@ -8,16 +8,16 @@ use Rattle.soundness.proofs.appointment_fits.Goals as goal
 pub returns-then-not-standing : goal.returns-then-not-standing
 returns-then-not-standing c = always (appointment_vacant _ _ (sym c.standing.ensures ∙ c.if-not-standing.true))
 
-pub returns-then-w-eq3 : goal.returns-then-w-eq3
-returns-then-w-eq3 c =
+pub returns-then-w : goal.returns-then-w
+returns-then-w c =
     decides_at
-    (rw (c.has.ensures, c.has-then-w-eq3.ensures, c.has-then-w-eq3-2.ensures))
+    (rw (c.has.ensures, c.has-then-w.ensures, c.has-then-w-2.ensures))
     (administrator_in _ _
     (sym c.standing.ensures ∙ c.if-not-standing.false)
-    (omega (arith, c.if-w-eq3.true)))
+    (omega (arith, c.if-w.true)))
 
 pub returns : goal.returns
 returns c =
     decides_at
     (rw (c.has-2.ensures, c.has-3.ensures))
-    (other_in _ _ (sym c.standing.ensures ∙ c.if-not-standing.false) c.if-w-eq3.false)
+    (other_in _ _ (sym c.standing.ensures ∙ c.if-not-standing.false) c.if-w.false)

@@ -14,5 +14,5 @@ returns c =
       rules = search (rules, length_mapped);
     } in
     rw
-    (c.put_rules.ensures, c.put_appointments.ensures, c.put_rows.ensures, c.put_sorts.ensures)
-    (picture_stored _ sized _)
+    (c.put_table-3.ensures, c.put_table-2.ensures, c.put_table.ensures, c.copy_from_slice.ensures.after)
+    (picture_stored _ sized _ c.told-out)

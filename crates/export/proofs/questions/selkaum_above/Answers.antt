@@ -1,15 +1,11 @@
--- `selkaum_above` tells the set with which the policy of the picture answers: all that x is under.
-use mathlib.Core.Path.{refl}
-use native.Mathlib.Omega.{arith}
-use Rattle.reach.specs.Tables.{view}
-use Rattle.reach.specs.Reach.{Under}
-use Rattle.export.proofs.Asking.{set_told}
+use Rattle.export.specs.Picture.{policy_of}
+use Rattle.export.proofs.Existing.{above_there}
+use Rattle.export.proofs.Asking.{no_set, set_told}
 use Rattle.export.proofs.questions.selkaum_above.Goals as goal
+
+pub returns-in_default : goal.returns-in_default
+returns-in_default c = no_set _ _ _ (above_there (policy_of c.args.policy.now) c.args.x) c.in_default.ensures
 
 pub returns : goal.returns
 returns c =
-    set_told (λ x y p g. Under (view p) x g) _ 0 _ 0 _ _ _ _ _ _
-    (omega arith) refl
-    c.policy_of.ensures
-    c.above-above.ensures
-    c.tell_set.ensures
+    set_told _ _ _ c.in-Some.p _ c.in-Some.ensures c.above.ensures c.to_le_bytes.ensures c.tell.ensures.written c.tell.ensures.count

@@ -1,14 +1,11 @@
--- `selkaum_administered` tells the set with which the policy of the picture answers: what u administers with a.
-use native.Mathlib.Omega.{arith}
-use Rattle.reach.specs.Tables.{view}
-use Rattle.reach.specs.Privileges.{Administers}
-use Rattle.export.proofs.Asking.{set_told}
+use Rattle.export.specs.Picture.{policy_of}
+use Rattle.export.proofs.Existing.{administered_there}
+use Rattle.export.proofs.Asking.{no_set, set_told}
 use Rattle.export.proofs.questions.selkaum_administered.Goals as goal
+
+pub returns-in_default : goal.returns-in_default
+returns-in_default c = no_set _ _ _ (administered_there (policy_of c.args.policy.now) c.args.u c.args.a) c.in_default.ensures
 
 pub returns : goal.returns
 returns c =
-    set_told (λ u a p b. Administers (view p) u a b) _ _ _ _ _ _ _ _ _ _
-    (omega arith) (omega arith)
-    c.policy_of.ensures
-    c.administered-administered.ensures
-    c.tell_set.ensures
+    set_told _ _ _ c.in-Some.p _ c.in-Some.ensures c.administered.ensures c.to_le_bytes.ensures c.tell.ensures.written c.tell.ensures.count

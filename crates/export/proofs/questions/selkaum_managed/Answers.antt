@@ -1,15 +1,11 @@
--- `selkaum_managed` tells the set with which the policy of the picture answers: all that u manages.
-use mathlib.Core.Path.{refl}
-use native.Mathlib.Omega.{arith}
-use Rattle.reach.specs.Tables.{view}
-use Rattle.reach.specs.Privileges.{Manages}
-use Rattle.export.proofs.Asking.{set_told}
+use Rattle.export.specs.Picture.{policy_of}
+use Rattle.export.proofs.Existing.{held_there}
+use Rattle.export.proofs.Asking.{no_set, set_told}
 use Rattle.export.proofs.questions.selkaum_managed.Goals as goal
+
+pub returns-in_default : goal.returns-in_default
+returns-in_default c = no_set _ _ _ (held_there (policy_of c.args.policy.now) _ c.args.u) c.in_default.ensures
 
 pub returns : goal.returns
 returns c =
-    set_told (λ u y p x. Manages (view p) u x) _ 0 _ 0 _ _ _ _ _ _
-    (omega arith) refl
-    c.policy_of.ensures
-    c.managed-managed.ensures
-    c.tell_set.ensures
+    set_told _ _ _ c.in-Some.p _ c.in-Some.ensures c.managed.ensures c.to_le_bytes.ensures c.tell.ensures.written c.tell.ensures.count

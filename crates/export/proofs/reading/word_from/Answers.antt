@@ -1,29 +1,16 @@
-use native.Mathlib.Omega.{arith}
-use Rattle.export.proofs.Tabling.{numbered_start, numbered_room, numbered_step, numbered_end}
-use mathlib.Core.Path.{◌∙◌}
-use Rattle.std.proofs.Common.{rules}
+-- `word_from` has eight bytes of the picture, and the library makes the number of them.
+use Rattle.std.proofs.Common.{rules, ◌≡◌, ◌+◌, ◌∙◌, List, ℕ}
+use Rattle.std.proofs.lemmas.Grind.{common_steps}
+use Rattle.std.specs.Int.{from_le_bytes, w64}
+use Rattle.frame.specs.Fields.{byte}
+use Rattle.export.specs.Picture.{table}
+use Rattle.export.proofs.Tabling.{table_called, word_of_eight}
 use Rattle.export.proofs.reading.word_from.Goals as goal
 
-pub loop-k-init : goal.loop-k-init
-loop-k-init c = numbered_start _ _
-
-pub overflow_add-at : goal.overflow_add-at
-overflow_add-at c = omega (arith, c.requires, c.loop-k.invariant.within)
-
-pub overflow_mul-word : goal.overflow_mul-word
-overflow_mul-word c = omega (arith, numbered_room c.loop-k.invariant c.loop-k-test.true)
-
-pub overflow_add-word : goal.overflow_add-word
-overflow_add-word c = omega (arith, c.wide.ensures, numbered_room c.loop-k.invariant c.loop-k-test.true)
-
-pub loop-k-preserved : goal.loop-k-preserved
-loop-k-preserved c =
-    numbered_step
-    c.loop-k.invariant
-    c.loop-k-test.true
-    _
-    (c.wide.ensures ∙ c.byte.ensures)
-    (omega (arith, c.wide.ensures))
-
 pub returns : goal.returns
-returns c = numbered_end c.loop-k.invariant (search rules)
+returns c =
+    let at = c.args.at in
+    let eight : c.from_fn.result ≡ table 8 (λ k. byte c.args.picture.now (at + k)) =
+    table_called _ 8 _ _ (λ i x q h k. (search rules, search rules)) _ c.from_fn.ensures.items
+    in
+    c.from_le_bytes.ensures ∙ rw eight (word_of_eight c.args.picture.now at)

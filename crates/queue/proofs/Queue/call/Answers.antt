@@ -1,47 +1,38 @@
-use mathlib.Core.Path.{◌≡◌, sym, ap, ◌∙◌}
-use Prim.Native.Nat.{ℕ, ◌+◌}
-use native.Mathlib.Omega.{arith}
-use lib.ListN.{length, get_or}
-use lib.Seq.{slice}
-use Rattle.std.proofs.Common.{rules}
-use Rattle.queue.specs.Line.{free, held, counted, called}
-use Rattle.queue.specs.declared.rows.Row.{Row}
-use Rattle.queue.specs.Stored.{may_at, waiters, queue_of}
-use Rattle.queue.specs.Rows.{held_queue}
-use Rattle.queue.proofs.Placing.{slice_end, called_here, called_past}
+use Rattle.std.proofs.Common.{ℕ, ◌∙◌, sym, ap, arith}
+use Rattle.queue.specs.Line.{held, counted, called}
+use Rattle.queue.specs.Stored.{may_at, queue_of}
+use Rattle.queue.proofs.Placing.{called_here, called_past, called_nothing}
 use Rattle.queue.proofs.Queue.call.Goals as goal
+
+pub loop-w-init : goal.loop-w-init
+loop-w-init c = let q = c.args.self in (
+  c.waiters-rest.ensures.few,
+  ap (called (may_at q c.args.p) (counted q.turn)) c.waiters-rest.ensures.value,
+)
+
+pub given-requires : goal.given-requires
+given-requires c = omega (arith, c.in-Some.ensures.cases.1, c.loop-w.invariant.0)
 
 pub returns-then-may_transmit : goal.returns-then-may_transmit
 returns-then-may_transmit c =
-    let eight : length c.args.self.waiting ≡ 8 = search rules in
-    let those = c.those in
-    let counts = c.counted in
     let q = c.args.self in
-    let w = get_or q.waiting c.loop-i.i 0 in
-    let long = eight in
-    let e : called (may_at q c.args.p) (counted q.turn) (waiters q)
-    ≡ held w (counted q.turn) (slice (c.loop-i.i + 1) q.count q.waiting) =
-    sym c.loop-i.invariant
-    ∙ called_here q.waiting c.loop-i.i q.count (omega arith) (omega (arith, long)) (may_at q c.args.p)
-    (counted q.turn)
-    (sym c.may_transmit.ensures ∙ c.if-may_transmit.true) in
-    c.given.ensures ∙ ap (λ (n : ℕ). held_queue q w n those.result) counts.ensures
-    ∙ ap (λ (r : Row). held_queue q w (counted q.turn) r) those.ensures ∙ sym (ap (queue_of q) e)
+    let some = c.in-Some in
+    c.given.ensures ∙ ap (λ (n : ℕ). queue_of q (held some.w.now n some.behind.now)) c.counted.ensures
+    ∙ ap (queue_of q) (sym (called_here some.w.now some.behind.now (may_at q c.args.p) (counted q.turn)
+    (sym c.may_transmit.ensures ∙ c.if-may_transmit.true))
+    ∙ sym (ap (called (may_at q c.args.p) (counted q.turn)) some.ensures.cases.0) ∙ c.loop-w.invariant.1)
 
-pub loop-i-preserved : goal.loop-i-preserved
-loop-i-preserved c =
-    let eight : length c.args.self.waiting ≡ 8 = search rules in
+pub loop-w-preserved : goal.loop-w-preserved
+loop-w-preserved c =
     let q = c.args.self in
-    let long = eight in
-    called_past q.waiting c.loop-i.i q.count (omega arith) (omega (arith, long)) (may_at q c.args.p)
-    (counted q.turn)
-    (sym c.may_transmit.ensures ∙ c.if-may_transmit.false)
-    ∙ c.loop-i.invariant
+    let some = c.in-Some in (
+      omega (arith, some.ensures.cases.1, c.loop-w.invariant.0),
+      sym (called_past some.w.now some.behind.now (may_at q c.args.p) (counted q.turn)
+          (sym c.may_transmit.ensures ∙ c.if-may_transmit.false))
+          ∙ sym (ap (called (may_at q c.args.p) (counted q.turn)) some.ensures.cases.0) ∙ c.loop-w.invariant.1,
+    )
 
 pub returns : goal.returns
-unfolding called
 returns c =
     let q = c.args.self in
-    let e : called (may_at q c.args.p) (counted q.turn) (waiters q) ≡ free =
-    sym c.loop-i.invariant ∙ rw (slice_end q.waiting c.loop-i.i q.count c.loop-i-test.false) in
-    rw (e, c.freed.ensures)
+    c.freed.ensures ∙ ap (queue_of q) (sym (called_nothing (may_at q c.args.p) (counted q.turn) _ c.in_default.ensures.cases) ∙ c.loop-w.invariant.1)

@@ -1,7 +1,9 @@
 -- Each return is one of the tests that `is_held` joins, after those before it have passed.
 use native.Mathlib.Omega.{arith}
 use borrow.Author.Tests.{lt-ltb, le-ltb, le-leb, lt-leb, eq-eqb, ne_eqb}
+use Rattle.std.proofs.Common.{◌∙◌, ap}
 use Rattle.queue.specs.Stored.{is_held, fit}
+use Rattle.queue.proofs.Placing.{in_waiters}
 use Rattle.queue.proofs.Queue.is_held.Goals as goal
 
 pub returns-then-self-ne1 : goal.returns-then-self-ne1
@@ -41,9 +43,9 @@ returns-then-self-ge64 c =
       le-ltb q.holder 64 (omega (arith, c.if-self-ge64.true)),
     )
 
-pub returns-then-among : goal.returns-then-among
+pub returns-then-contains : goal.returns-then-contains
 unfolding is_held fit
-returns-then-among c =
+returns-then-contains c =
     let q = c.args.self in
     simp (
       eq-eqb _ _ c.if-self-ne1.false,
@@ -52,8 +54,8 @@ returns-then-among c =
       ← c.counted.ensures,
       le-leb _ _ c.if-self-counted.false,
       lt-ltb q.holder 64 (omega (arith, c.if-self-ge64.false)),
-      ← c.among.ensures,
-      c.if-among.true,
+      ← in_waiters q q.holder c.contains.ensures.value c.waiters-waiters.ensures.value,
+      c.if-contains.true,
     )
 
 pub returns : goal.returns
@@ -67,7 +69,7 @@ returns c =
       ← c.counted.ensures,
       le-leb _ _ c.if-self-counted.false,
       lt-ltb q.holder 64 (omega (arith, c.if-self-ge64.false)),
-      ← c.among.ensures,
-      c.if-among.false,
+      ← in_waiters q q.holder c.contains.ensures.value c.waiters-waiters.ensures.value,
+      c.if-contains.false,
     )
-    c.fits.ensures
+    (c.fits.ensures ∙ ap fit c.waiters-waiters.ensures.value)

@@ -2,8 +2,9 @@
 use mathlib.Core.Path.{sym, ap, ◌∙◌}
 use Prim.Native.Nat.{◌-◌}
 use native.Mathlib.Omega.{arith}
-use Rattle.queue.specs.declared.rows.Row.{Row}
-use Rattle.queue.specs.Rows.{held_queue}
+use Rattle.std.proofs.Common.{ℕ, List}
+use Rattle.queue.specs.Line.{held}
+use Rattle.queue.specs.Stored.{queue_of}
 use Rattle.queue.proofs.Saying.{sound_record}
 use Rattle.queue.proofs.Stepping.{tick_free, tick_last, tick_more}
 use Rattle.queue.proofs.Queue.ticked.Goals as goal
@@ -12,11 +13,6 @@ pub returns-then-not-is_held : goal.returns-then-not-is_held
 returns-then-not-is_held c =
     let asked = c.is_held in
     sym (tick_free _ _ (sym asked.ensures ∙ c.if-not-is_held.true))
-
-pub call-requires : goal.call-requires
-call-requires c =
-    let asked = c.is_held in
-    (sound_record _ (sym asked.ensures ∙ c.if-not-is_held.false)).few
 
 pub returns-then-self-eq1 : goal.returns-then-self-eq1
 returns-then-self-eq1 c =
@@ -30,15 +26,10 @@ overflow_sub-self c =
     let asked = c.is_held in
     (sound_record _ (sym asked.ensures ∙ c.if-not-is_held.false)).some
 
-pub those-requires : goal.those-requires
-those-requires c =
-    let asked = c.is_held in
-    (omega arith, (sound_record _ (sym asked.ensures ∙ c.if-not-is_held.false)).few)
-
 pub returns : goal.returns
 returns c =
     let asked = c.is_held in
     let q = c.args.self in
-    c.given.ensures ∙ ap (λ (r : Row). held_queue q q.holder (q.left - 1) r) c.those.ensures
+    c.given.ensures ∙ ap (λ (ws : List ℕ). queue_of q (held q.holder (q.left - 1) ws)) c.waiters.ensures.value
     ∙ sym (tick_more _ _ (sym asked.ensures ∙ c.if-not-is_held.false)
     (λ e. omega (arith, c.if-self-eq1.false, e)))

@@ -1,13 +1,10 @@
--- Whether the numbers from i on fit is whether all of them do, as long as none was met that does not.
-use mathlib.Core.Path.{◌≡◌}
-use Prim.Native.Nat.{◌-◌}
-use lib.ListN.{take}
-use lib.Seq.{slice}
+-- Whether the rest fits is whether all of them do, as long as none was met that does not.
+use Rattle.std.proofs.Common.{◌≡◌, length}
 use Rattle.queue.specs.Stored.{fit}
 use Rattle.queue.proofs.rows.fits.Given as goal
 
-abbrev pub invariant-loop-i : goal.invariant-loop-i
-invariant-loop-i l = fit (slice l.i l.to l.a) ≡ fit (take l.to l.a)
+abbrev pub invariant-loop-w : goal.invariant-loop-w
+invariant-loop-w l = fit l.rest ≡ fit l.waiters
 
-abbrev pub decreases-loop-i : goal.decreases-loop-i
-decreases-loop-i l = l.to - l.i
+abbrev pub decreases-loop-w : goal.decreases-loop-w
+decreases-loop-w l = length l.rest

@@ -17,4 +17,4 @@ returns c =
     (wrote_then
     (wrote_then (wrote_sign 32 c.put_small-after_holder.ensures c.put_byte-at_left.ensures (omega arith))
     c.put_number-after_left.ensures)
-    c.put_waiters.ensures)
+    (rw c.waiters.ensures at c.put_waiters.ensures))

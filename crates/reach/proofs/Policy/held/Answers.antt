@@ -6,13 +6,11 @@ use Rattle.reach.proofs.Policy.held.Goals as goal
 
 pub returns : goal.returns
 returns c =
-    let sorts = c.objects-objects.ensures.sorts in
-    let memberships = c.objects-objects.ensures.memberships in
     held_by _ _ _ _
-    (user_by _ _ (rw sorts at c.is_user-user.ensures))
+    (user_by _ _ c.is_user-user.ensures)
     c.given_to-given.ensures.0.owner
     c.given_to-given.ensures.0.manager
-    (rw (sorts, memberships) at c.above-over_x.ensures)
-    (rw (sorts, memberships) at c.above-over_y.ensures)
+    c.above-over_x.ensures
+    c.above-over_y.ensures
     c.given_to-given.ensures.1
-    (rw (sorts, memberships) at c.direct.ensures ∙ direct_by _ _ _)
+    (c.direct.ensures ∙ direct_by _ _ _)

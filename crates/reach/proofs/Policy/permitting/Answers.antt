@@ -6,19 +6,16 @@ use Rattle.reach.proofs.Policy.permitting.Goals as goal
 
 pub returns-then-not-is_user-is_target : goal.returns-then-not-is_user-is_target
 returns-then-not-is_user-is_target c =
-    let sorts = c.objects-objects.ensures.sorts in
     permitting_not _ _ _ _
-    (sym (askable_by _ _ _ _ (rw sorts at c.is_user.ensures) (rw sorts at c.is_target.ensures))
+    (sym (askable_by _ _ _ _ c.is_user.ensures c.is_target.ensures)
     ∙ c.if-not-is_user-is_target.true)
 
 pub returns : goal.returns
 returns c =
-    let sorts = c.objects-objects.ensures.sorts in
-    let memberships = c.objects-objects.ensures.memberships in
     c.covering.ensures
     ∙ covering_is _
-    (climbed _ (rw (sorts, memberships) at c.above.ensures))
+    (climbed _ c.above.ensures)
     _
-    (climbed _ (rw (sorts, memberships) at c.above-2.ensures))
-    (sym (askable_by _ _ _ _ (rw sorts at c.is_user.ensures) (rw sorts at c.is_target.ensures))
+    (climbed _ c.above-2.ensures)
+    (sym (askable_by _ _ _ _ c.is_user.ensures c.is_target.ensures)
     ∙ c.if-not-is_user-is_target.false)
