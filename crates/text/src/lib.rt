@@ -3,7 +3,7 @@
 #![tactic(auto)]
 
 ghost use Rattle.std.specs.Prelude.{[], ◌∷◌, ◌≡◌};
-ghost use Rattle.text.specs.Text.{Wrote, Printed, decimal, line};
+ghost use Rattle.text.specs.Text.{Printed, decimal, line};
 ghost use Rattle.text.specs.Paging.{Puts};
 
 // A lent buffer, and the place where the next byte goes.
@@ -86,46 +86,6 @@ pub fn print(out: &mut [u8], text: &[u8]) -> usize
     ensures { Printed out.old text.now out.new result }
 {
     let mut page = Page::new(out);
-    page.bytes(text);
-    page.at
-}
-
-pub fn put_byte(out: &mut [u8], n: usize, byte: u8) -> usize
-    ensures { Wrote out.old n (byte ∷ []) out.new result }
-{
-    let mut page = Page { out, at: n };
-    page.byte(byte);
-    page.at
-}
-
-pub fn put_number(out: &mut [u8], n: usize, x: usize) -> usize
-    ensures { Wrote out.old n (decimal x) out.new result }
-{
-    let mut page = Page { out, at: n };
-    page.number(x);
-    page.at
-}
-
-pub fn put_small(out: &mut [u8], n: usize, x: u8) -> usize
-    ensures { Wrote out.old n (decimal x) out.new result }
-{
-    let mut page = Page { out, at: n };
-    page.small(x);
-    page.at
-}
-
-pub fn put_line(out: &mut [u8], n: usize, index: usize, code: u8, cited: u8) -> usize
-    ensures { Wrote out.old n (line index code cited) out.new result }
-{
-    let mut page = Page { out, at: n };
-    page.line(index, code, cited);
-    page.at
-}
-
-pub fn put_bytes(out: &mut [u8], n: usize, text: &[u8]) -> usize
-    ensures { Wrote out.old n text.now out.new result }
-{
-    let mut page = Page { out, at: n };
     page.bytes(text);
     page.at
 }

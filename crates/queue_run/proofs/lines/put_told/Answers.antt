@@ -6,6 +6,6 @@ pub returns-then-told : goal.returns-then-told
 unfolding told_line
 returns-then-told c = rw c.if-told.true c.put_event.ensures
 
-pub returns : goal.returns
+pub returns-else-told : goal.returns-else-told
 unfolding told_line
-returns c = rw c.if-told.false c.put_line.ensures
+returns-else-told c = rw c.if-told.false c.line.ensures
