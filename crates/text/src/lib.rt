@@ -55,7 +55,7 @@ impl<'a> Page<'a> {
     }
 
     // The same of a number of a byte, which has at most three digits: with no call of itself. It stands beside `number` for speed: by that one
-    // a line takes a quarter longer, 25 nanoseconds for 20 (measured).
+    // a line takes a quarter longer, 28 nanoseconds for 22 (measured).
     pub fn small(&mut self, x: u8)
         ensures { Puts self.old (decimal x) self.new }
     {
