@@ -1,16 +1,12 @@
 -- The waiters on a line: one more behind others is a space and his number behind theirs. By induction on the others.
-use mathlib.Core.Path.{◌≡◌, refl, sym, ap, ◌∙◌}
-use mathlib.Core.Bool.{Bool, true, false}
+use mathlib.Core.Path.{◌≡◌, ap}
 use mathlib.Core.List.{List, [], ◌∷◌, ◌++◌, append_assoc, append-nil}
 use Prim.Native.Nat.{ℕ, ◌+◌, ◌<◌, ◌≤◌}
 use native.Mathlib.Numerals.{add-one}
-use native.Mathlib.Omega.{arith}
-use lib.Dec.{leb}
 use lib.ListN.{length, take, get_or}
 use lib.Seq.{take-suc, take_all}
-use borrow.Author.Tests.{leb-true, leb-false}
 use Rattle.text.specs.declared.Page.{Page}
-use Rattle.text.specs.Text.{Bytes, decimal}
+use Rattle.text.specs.Text.{decimal}
 use Rattle.text.specs.Paging.{Puts}
 use Rattle.text.proofs.Paging.{puts_none, puts_as, puts_then}
 use Rattle.queue_run.specs.Output.{spaced}
