@@ -8,9 +8,8 @@ use native.Mathlib.Omega.{arith}
 use lib.ListN.{length, length-append}
 use Rattle.frame.specs.Reading.{records_from}
 use borrow.Author.Tests.{ltb-false}
-use Rattle.text.specs.Text.{Bytes, lines, Wrote, Printed}
+use Rattle.text.specs.Text.{Bytes, lines, Printed}
 use Rattle.text.proofs.Decimals.{decimal_length}
-use Rattle.text.proofs.Writing.{printed_of_wrote}
 use Rattle.reach.specs.declared.Policy.{Policy}
 use Rattle.reach.specs.Tests.{◌⇒◌∥◌}
 use Rattle.reach.specs.Tables.{initial}
@@ -34,10 +33,10 @@ unfolding output_from output report
 output_founding input = refl
 
 -- An input that is too long, and any other.
-pub printed_long : (p : Policy) (input : Bytes) {out out' : Bytes} {n : ℕ} → 65536 < length input → Wrote out 0 too_long out' n
+pub printed_long : (p : Policy) (input : Bytes) {out out' : Bytes} {n : ℕ} → 65536 < length input → Printed out too_long out' n
     → Printed out (output_from p input) out' n
 unfolding output_from
-printed_long p input h w = rw (long_input input h) (printed_of_wrote w)
+printed_long p input h w = rw (long_input input h) w
 
 pub printed_judged : (p : Policy) (input : Bytes) {out out' : Bytes} {n : ℕ} → length input ≤ 65536
     → Printed out (lines 0 (answers_from p input 0)) out' n → Printed out (output_from p input) out' n

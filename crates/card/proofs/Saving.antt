@@ -7,9 +7,8 @@ use native.Mathlib.Omega.{arith}
 use lib.ListN.{length, drop, length-append}
 use lib.Seq.{take-append_seam}
 use Rattle.frame.specs.Reading.{records_from}
-use Rattle.text.specs.Text.{Bytes, Wrote, Printed}
+use Rattle.text.specs.Text.{Bytes, Printed}
 use Rattle.text.proofs.Decimals.{decimal_length}
-use Rattle.text.proofs.Writing.{printed_of_wrote}
 use Rattle.reach.specs.declared.Policy.{Policy}
 use Rattle.reach.specs.Tables.{view, initial}
 use Rattle.list.specs.Runs.{run}
@@ -33,14 +32,14 @@ line_fits : (n : ℕ) → n ≤ 25376 → length (saved_line 0 n) ≤ 8
 line_fits n h = simp length-append (omega (arith, decimal_length 0 0 (omega arith), decimal_length 4 n (omega arith)))
 
 -- An input that is too long.
-pub saves_long : (input : Bytes) {card line line' : Bytes} {n : ℕ} → 65536 < length input → length line ≡ 16 → Wrote line 0 too_long line' n
+pub saves_long : (input : Bytes) {card line line' : Bytes} {n : ℕ} → 65536 < length input → length line ≡ 16 → Printed line too_long line' n
     → Saves input card card line' (record { card = None; printed = n })
 saves_long input h room w =
     let long = long_input input h in
     record {
       file = rw long;
       on_card = rw long;
-      line = rw long (shows_of_printed (printed_of_wrote w) (omega (arith, room)));
+      line = rw long (shows_of_printed w (omega (arith, room)));
       demand = third (records_from input 0);
     }
 

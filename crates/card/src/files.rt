@@ -9,7 +9,7 @@ use std::io::{ErrorKind, Write};
 use std::os::unix::fs::OpenOptionsExt;
 use std::random::RandomSource;
 use std::{fs, io};
-use text::put_bytes;
+use text::Page;
 
 // Reads the file of that name until it ends or the buffer is full, and answers how many bytes it gave. If it can't be opened or read, a line
 // on standard error says why.
@@ -92,8 +92,10 @@ fn put_beside(name: &[u8], beside: &mut [u8]) -> usize
     ensures printed { Printed beside.old (name.now ++ six_unknown) beside.new result }
     ensures prefix_len { IsPrefixLen result beside.new }
 {
-    let after_name = put_bytes(beside, 0, name);
-    put_bytes(beside, after_name, b".XXXXXX")
+    let mut page = Page::new(beside);
+    page.bytes(name);
+    page.bytes(b".XXXXXX");
+    page.at
 }
 
 // Writes the card to a new file beside the one of that name, and puts it in its place once the system has stored it, so that a power cut

@@ -11,7 +11,7 @@ use crate::{Saved, Told};
 use list::report_from;
 use reach::Policy;
 use snapshot::{CardError, card_code, read_card, write_card};
-use text::{put_byte, put_bytes, put_number, put_small};
+use text::{Page, print};
 
 // The policy that the records of the input leave from the policy p. What they print has no room.
 fn left_by(p: Policy, input: &[u8]) -> Policy
@@ -24,10 +24,12 @@ fn left_by(p: Policy, input: &[u8]) -> Policy
 fn put_saved(line: &mut [u8], written: Result<usize, CardError>) -> usize
     ensures { Printed line.old (saved_line (code_of written) (length_of written)) line.new result }
 {
-    let after_code = put_small(line, 0, card_code(&written));
-    let at_length = put_byte(line, after_code, b' ');
-    let after_length = put_number(line, at_length, written.unwrap_or(0));
-    put_byte(line, after_length, b'\n')
+    let mut page = Page::new(line);
+    page.small(card_code(&written));
+    page.byte(b' ');
+    page.number(written.unwrap_or(0));
+    page.byte(b'\n');
+    page.at
 }
 
 // Saves what the requests of the input leave from the founding: the card, and the line to print once it is in its place. Of an input of more
@@ -39,7 +41,7 @@ pub fn save_list(input: &[u8], card: &mut [u8; 25376], line: &mut [u8; 16]) -> S
     if input.len() > 65536 {
         return Saved {
             card: None,
-            printed: put_bytes(line, 0, b"too long\n"),
+            printed: print(line, b"too long\n"),
         };
     }
     let founding = Policy::initial();
@@ -55,8 +57,10 @@ pub fn save_list(input: &[u8], card: &mut [u8; 25376], line: &mut [u8; 16]) -> S
 fn put_code(head: &mut [u8], code: u8) -> usize
     ensures { Printed head.old (code_line code) head.new result }
 {
-    let after_code = put_small(head, 0, code);
-    put_byte(head, after_code, b'\n')
+    let mut page = Page::new(head);
+    page.small(code);
+    page.byte(b'\n');
+    page.at
 }
 
 // A line for each record of the input, judged from the policy p on; for a longer input the line that says so.
@@ -64,7 +68,7 @@ fn output_from(p: Policy, input: &[u8], out: &mut [u8]) -> usize
     ensures { Printed out.old (output_from p input.now) out.new result }
 {
     if 65536 < input.len() {
-        return put_bytes(out, 0, b"too long\n");
+        return print(out, b"too long\n");
     }
     report_from(p, input, out).written
 }

@@ -47,15 +47,15 @@ module _ (first : Policy) (b out₀ : Bytes) where
     pub to_come : so_far ++ answers_of p records torn ≡ answers_from first b 0
     pub policy_to_come : run p records ≡ run first (records_from b 0)
 
-  pub reporting_start : {items : List Item} {index : ℕ} → items ≡ items_from b 0 → index ≡ 0 → Reporting out₀ first items index 0
+  pub reporting_start : {items : List Item} {index n : ℕ} → items ≡ items_from b 0 → index ≡ 0 → n ≡ 0 → Reporting out₀ first items index n
   unfolding answers_from
-  reporting_start e f = record {
+  reporting_start e f g = record {
     records = records_from b 0;
     torn = torn_from b 0;
     coming = rw e (coming_from b 0);
     so_far = [];
     count = sym f;
-    wrote = wrote_as (sym (lines_none 0)) (wrote_none out₀ 0);
+    wrote = rw g (wrote_as (sym (lines_none 0)) (wrote_none out₀ 0));
     to_come = refl;
     policy_to_come = refl;
   }
@@ -136,10 +136,10 @@ abbrev too_long_then : ℕ → Bytes
 too_long_then end = 116 ∷ 111 ∷ 111 ∷ 32 ∷ 108 ∷ 111 ∷ 110 ∷ 103 ∷ end ∷ []
 
 -- An input past the limit.
-pub printed_too_long : (b : Bytes) {out out' : Bytes} {end r : ℕ} → 65536 < length b → Wrote out 0 (too_long_then end) out' r
+pub printed_too_long : (b : Bytes) {out out' : Bytes} {end r : ℕ} → 65536 < length b → Printed out (too_long_then end) out' r
     → end ≡ 10 → Printed out (output b) out' r
 unfolding output
-printed_too_long b h w e = rw (lt-ltb 65536 (length b) h) (printed_of_wrote (wrote_as (ap too_long_then e) w))
+printed_too_long b h w e = rw (lt-ltb 65536 (length b) h) (rw e at w)
 
 -- An input within it.
 pub printed_report : (b : Bytes) {out out' : Bytes} {r : ℕ} → length b ≤ 65536 → Printed out (report b) out' r

@@ -9,22 +9,25 @@ use crate::Reported;
 use crate::run::answered;
 use frame::{Reader, Torn};
 use reach::Policy;
-use text::{put_bytes, put_line};
+use text::{Page, print};
 
 // A line for each record of the input, the first judged on p and each later one on what those before it left, and one for a torn place.
 pub fn report_from(p: Policy, input: &[u8], out: &mut [u8]) -> Reported
     ensures { ReportInto p input.now out.old out.new result }
 {
     let mut policy = p;
-    let mut written = 0;
+    let mut page = Page::new(out);
     for (index, record) in Reader::new(input, 0).enumerate() {
         let (code, cited) = match record {
             Ok(bytes) => answered(&mut policy, bytes),
             Err(Torn) => (1, 255),
         };
-        written = put_line(out, written, index, code, cited);
+        page.line(index, code, cited);
     }
-    Reported { written, policy }
+    Reported {
+        written: page.at,
+        policy,
+    }
 }
 
 // The same from the founding on; and of the records that are read demand 3 holds, whole.
@@ -42,7 +45,7 @@ pub fn output(input: &[u8], out: &mut [u8]) -> usize
     ensures founding_demand3 { FoundingDemand3 (records_from input.now 0) }
 {
     if 65536 < input.len() {
-        return put_bytes(out, 0, b"too long\n");
+        return print(out, b"too long\n");
     }
     report(input, out)
 }

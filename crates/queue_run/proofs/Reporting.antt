@@ -42,14 +42,14 @@ module _ (b out₀ : Bytes) where
     pub wrote : Wrote out₀ 0 so_far out n
     pub to_come : so_far ++ lines_of c index records torn ≡ lines_from founding 0 b 0
 
-  pub reporting_start : {c : Club} {items : List Item} {index : ℕ} → c ≡ founding → items ≡ items_from b 0 → index ≡ 0
-      → Reporting out₀ c items index 0
-  reporting_start e f g = record {
+  pub reporting_start : {c : Club} {items : List Item} {index n : ℕ} → c ≡ founding → items ≡ items_from b 0 → index ≡ 0
+      → n ≡ 0 → Reporting out₀ c items index n
+  reporting_start e f g h = record {
     records = records_from b 0;
     torn = torn_from b 0;
     coming = rw f (coming_from b 0);
     so_far = [];
-    wrote = wrote_none out₀ 0;
+    wrote = rw h (wrote_none out₀ 0);
     to_come = rw (e, g);
   }
 
@@ -95,10 +95,10 @@ module _ (b out₀ : Bytes) where
 -- ---- The limit on the input
 
 -- An input past the limit.
-pub printed_too_long : (b : Bytes) {out out' : Bytes} {r : ℕ} → 65536 < length b → Wrote out 0 too_long out' r
+pub printed_too_long : (b : Bytes) {out out' : Bytes} {r : ℕ} → 65536 < length b → Printed out too_long out' r
     → Printed out (output b) out' r
 unfolding output
-printed_too_long b h w = rw (lt-ltb 65536 (length b) h) (printed_of_wrote w)
+printed_too_long b h w = rw (lt-ltb 65536 (length b) h) w
 
 -- An input within it.
 pub printed_report : (b : Bytes) {out out' : Bytes} {r : ℕ} → length b ≤ 65536 → Printed out (lines_from founding 0 b 0) out' r

@@ -1,24 +1,21 @@
-// The lines that the program prints. Each function writes from n on and answers where the next byte goes; what there is
-// no room for is cut off.
+// The lines that the program prints, put on a page.
 ghost use Rattle.std.specs.Prelude.{◌≡◌, take};
-ghost use Rattle.text.specs.Text.{Wrote};
+ghost use Rattle.text.specs.Paging.{Puts};
 ghost use Rattle.queue_run.specs.Output.{spaced, queue_text, event_line, told_line};
 
 use crate::club::{Outcome, Told};
 use judge::{cited_of, code_of};
 use queue::Queue;
-use text::{put_byte, put_bytes, put_line, put_number, put_small};
+use text::Page;
 
 // The waiters in their order, a space before each.
-fn put_waiters(out: &mut [u8], n: usize, waiters: &[u8]) -> usize
-    ensures { Wrote out.old n (spaced waiters.now) out.new result }
+fn put_waiters(page: &mut Page, waiters: &[u8])
+    ensures { Puts page.old (spaced waiters.now) page.new }
 {
-    let mut at = n;
     for w in waiters {
-        let after_space = put_byte(out, at, b' ');
-        at = put_small(out, after_space, *w);
+        page.byte(b' ');
+        page.small(*w);
     }
-    at
 }
 
 // Those who wait: at most eight places are looked at.
@@ -29,36 +26,37 @@ fn waiters(queue: &Queue) -> &[u8]
 }
 
 // Who holds the radio, the ticks left of his turn, and the waiters; of a free radio 255 and 0.
-fn put_queue(out: &mut [u8], n: usize, queue: Queue) -> usize
-    ensures { Wrote out.old n (queue_text queue) out.new result }
+fn put_queue(page: &mut Page, queue: Queue)
+    ensures { Puts page.old (queue_text queue) page.new }
 {
     if queue.held != 1 {
-        return put_bytes(out, n, b"255 0");
+        page.bytes(b"255 0");
+        return;
     }
-    let after_holder = put_small(out, n, queue.holder);
-    let at_left = put_byte(out, after_holder, b' ');
-    let after_left = put_number(out, at_left, queue.left as usize);
-    put_waiters(out, after_left, waiters(&queue))
+    page.small(queue.holder);
+    page.byte(b' ');
+    page.number(queue.left as usize);
+    put_waiters(page, waiters(&queue));
 }
 
 // The line of an event.
-fn put_event(out: &mut [u8], n: usize, index: usize, code: u8, queue: Queue) -> usize
-    ensures { Wrote out.old n (event_line index code queue) out.new result }
+fn put_event(page: &mut Page, index: usize, code: u8, queue: Queue)
+    ensures { Puts page.old (event_line index code queue) page.new }
 {
-    let after_index = put_number(out, n, index);
-    let at_code = put_byte(out, after_index, b' ');
-    let after_code = put_small(out, at_code, code);
-    let at_queue = put_byte(out, after_code, b' ');
-    let after_queue = put_queue(out, at_queue, queue);
-    put_byte(out, after_queue, b'\n')
+    page.number(index);
+    page.byte(b' ');
+    page.small(code);
+    page.byte(b' ');
+    put_queue(page, queue);
+    page.byte(b'\n');
 }
 
 // The line of a record.
-pub fn put_told(out: &mut [u8], n: usize, index: usize, told: Told) -> usize
-    ensures { Wrote out.old n (told_line index told) out.new result }
+pub fn put_told(page: &mut Page, index: usize, told: Told)
+    ensures { Puts page.old (told_line index told) page.new }
 {
     match told.outcome {
-        Outcome::Event(code) => put_event(out, n, index, code, told.club.queue),
-        Outcome::Judged(verdict) => put_line(out, n, index, code_of(verdict), cited_of(verdict)),
+        Outcome::Event(code) => put_event(page, index, code, told.club.queue),
+        Outcome::Judged(verdict) => page.line(index, code_of(verdict), cited_of(verdict)),
     }
 }

@@ -21,7 +21,7 @@ use intake::Answer;
 use lines::put_told;
 use std::io;
 use std::io::{Read, Write};
-use text::{put_bytes, put_line};
+use text::{Page, print};
 
 // A line for each record of the input, and one for a torn place. A buffer that is too small gets as much of the text as
 // it has room for.
@@ -29,20 +29,20 @@ fn report(input: &[u8], out: &mut [u8]) -> usize
     ensures { Printed out.old (lines_from founding 0 input.now 0) out.new result }
 {
     let mut club = founded();
-    let mut written = 0;
+    let mut page = Page::new(out);
     for (index, record) in Reader::new(input, 0).enumerate() {
         match record {
             Ok(bytes) => {
                 let told = taken_in(club, bytes);
-                written = put_told(out, written, index, told);
+                put_told(&mut page, index, told);
                 club = told.club;
             }
             Err(Torn) => {
-                written = put_line(out, written, index, 1, 255);
+                page.line(index, 1, 255);
             }
         }
     }
-    written
+    page.at
 }
 
 // The same for an input of at most 65,536 bytes; for a longer one the line that says so.
@@ -50,7 +50,7 @@ fn output(input: &[u8], out: &mut [u8]) -> usize
     ensures { Printed out.old (output input.now) out.new result }
 {
     if 65536 < input.len() {
-        return put_bytes(out, 0, b"too long\n");
+        return print(out, b"too long\n");
     }
     report(input, out)
 }

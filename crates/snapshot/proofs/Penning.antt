@@ -7,7 +7,7 @@ use mathlib.Core.List.{List, [], ◌∷◌, ◌++◌}
 use Prim.Native.Nat.{ℕ, zero, suc, ◌+◌, ◌^◌, ◌≤◌, ◌<◌}
 use native.Mathlib.Omega.{arith}
 use lib.Dec.{leb, ltb}
-use lib.ListN.{length, get_or, drop, length-append}
+use lib.ListN.{length, get_or, take, drop, length-append}
 use lib.Seq.{take_all}
 use Rattle.std.specs.Prelude.{Option, Some, None}
 use Rattle.reach.specs.declared.Policy.{Policy}
@@ -15,34 +15,36 @@ use Rattle.reach.specs.Tests.{◌⇒◌∥◌}
 use Rattle.reach.specs.Tables.{standing, view, counted, stored, appointment, rule, no_appointment, no_rule}
 use Rattle.reach.proofs.Sorts.{sort_at}
 use Rattle.text.specs.Text.{Bytes}
-use Rattle.text.proofs.Writing.{wrote_none, wrote_then, printed_of_wrote}
+use Rattle.text.proofs.Paging.{puts_none, puts_then, printed_page}
 use Rattle.list.specs.Filling.{over}
 use Rattle.snapshot.specs.declared.Entry.{Entry}
-use Rattle.snapshot.specs.declared.Pen.{Pen}
+use Rattle.snapshot.specs.declared.writing.Pen.{Pen}
 use Rattle.snapshot.specs.declared.Entry.TheVariants.{Object}
 use Rattle.snapshot.specs.Card.{bytes_of, object_of, appointed_of, granted_of, object_at, membership_at, appointed_at, granted_at, from}
-use Rattle.snapshot.specs.Writing.{Penned, entry_in, fresh, row_of}
+use Rattle.snapshot.specs.Writing.{Penned, page_of, entry_in, row_of}
 use Rattle.std.specs.List.{slice_get}
 use Rattle.std.proofs.lemmas.Option.{slice_get-get_or}
 use Rattle.snapshot.proofs.Runs.{from_end, from_same, from_more}
 
-pub penned_as : {o o' v w : Bytes} {a b : Pen} → v ≡ w → Penned o a v o' b → Penned o a w o' b
-penned_as {o} {o'} {a = a} {b} e p = subst (λ (t : Bytes). Penned o a t o' b) e p
+pub penned_as : {v w : Bytes} {a b : Pen} → v ≡ w → Penned a v b → Penned a w b
+penned_as {a = a} {b} e p = subst (λ (t : Bytes). Penned a t b) e p
 
-pub penned_then : {o o' o'' v w : Bytes} {a b c : Pen} → Penned o a v o' b → Penned o' b w o'' c → Penned o a (v ++ w) o'' c
-penned_then {v = v} {w} p q =
-    record { wrote = wrote_then p.wrote q.wrote; count = omega (arith, p.count, q.count, length-append v w) }
+pub penned_then : {v w : Bytes} {a b c : Pen} → Penned a v b → Penned b w c → Penned a (v ++ w) c
+penned_then {v} {w} p q =
+    record {
+      puts = puts_then p.puts q.puts;
+      count = λ n e. let both = q.count (n + length v) (p.count n e) in omega (arith, both, length-append v w);
+    }
 
--- Nothing is penned where there is nothing; a count fits a word.
-pub penned_nothing : {o v : Bytes} {pen : Pen} → pen.needed < 2 ^ 64 → v ≡ [] → Penned o pen v o pen
-penned_nothing {o} {v} {pen} fits e = penned_as (sym e) (record { wrote = wrote_none o pen.at; count = omega arith })
+-- Nothing is penned where there is nothing.
+pub penned_nothing : {v : Bytes} {pen : Pen} → v ≡ [] → Penned pen v pen
+penned_nothing {v} {pen} e = penned_as (sym e) (record { puts = puts_none (page_of pen); count = λ n f. omega (arith, f) })
 
 -- No place yet, and one place more.
-pub penned_start : {o : Bytes} {pen : Pen} (f : ℕ → Bytes) → pen.needed < 2 ^ 64 → Penned o pen (from 0 0 f) o pen
-penned_start f fits = penned_nothing fits (from_end 0 f)
+pub penned_start : {pen : Pen} (f : ℕ → Bytes) → Penned pen (from 0 0 f) pen
+penned_start f = penned_nothing (from_end 0 f)
 
-pub penned_more : {o o' o'' : Bytes} {a b c : Pen} (f : ℕ → Bytes) (k : ℕ) → Penned o a (from k 0 f) o' b → Penned o' b (f k) o'' c
-    → Penned o a (from (k + 1) 0 f) o'' c
+pub penned_more : {a b c : Pen} (f : ℕ → Bytes) (k : ℕ) → Penned a (from k 0 f) b → Penned b (f k) c → Penned a (from (k + 1) 0 f) c
 penned_more f k p q = penned_as (sym (from_more k f)) (penned_then p q)
 
 -- ---- The tables of a policy
@@ -92,10 +94,14 @@ module _ (p : Policy) where
 
 -- ---- The whole file
 
--- Where there is room for it, it stands at the start, and the rest is as it was.
-pub over_of_penned : {o w o' : Bytes} {a : Pen} → Penned o fresh w o' a → length w ≤ length o → o' ≡ over w o
-over_of_penned {o} {w} p l =
-    (printed_of_wrote p.wrote).bytes ∙ ap (λ (t : Bytes). t ++ drop (length w) o) (take_all (length o) w l)
+-- As much of it as there is room for stands at the start, and the rest is as it was.
+pub bytes_of_penned : {o w : Bytes} {a b : Pen} → a.at ≡ 0 → a.out.now ≡ o → Penned a w b
+    → b.out.now ≡ take (length o) w ++ drop (length w) o
+bytes_of_penned e f p = (printed_page e f p.puts).bytes
 
-pub length_of_penned : {o w o' : Bytes} {a : Pen} → Penned o fresh w o' a → length w < 2 ^ 64 → a.needed ≡ length w
-length_of_penned p fits = omega (arith, p.count)
+-- Where there is room for it, all of it.
+pub over_of_bytes : (w o : Bytes) {o' : Bytes} → o' ≡ take (length o) w ++ drop (length w) o → length w ≤ length o → o' ≡ over w o
+over_of_bytes w o e l = e ∙ ap (λ (t : Bytes). t ++ drop (length w) o) (take_all (length o) w l)
+
+pub length_of_penned : {w : Bytes} {a b : Pen} → a.needed ≡ 0 → Penned a w b → length w < 2 ^ 64 → b.needed ≡ length w
+length_of_penned e p fits = let counted = p.count 0 e in omega (arith, counted, fits)

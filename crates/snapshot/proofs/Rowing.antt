@@ -11,7 +11,6 @@ use native.Mathlib.Omega.{arith}
 use lib.Dec.{eqb}
 use lib.Bits.{bit_and}
 use lib.Count.{count_trailing_zeros, under}
-use lib.ListN.{length}
 use lib.Pow.{pow_pos}
 use borrow.Author.Tests.{eq-eqb, ne_eqb}
 use Rattle.std.specs.Prelude.{Some}
@@ -23,7 +22,7 @@ use Rattle.reach.proofs.OneBit.{has_without, and_is_without}
 use Rattle.reach.proofs.WordSets.{has_decides, below_next}
 use Rattle.text.specs.Text.{Bytes}
 use Rattle.snapshot.specs.declared.Entry.TheVariants.{Membership}
-use Rattle.snapshot.specs.declared.Pen.{Pen}
+use Rattle.snapshot.specs.declared.writing.Pen.{Pen}
 use Rattle.snapshot.specs.Card.{bytes_of, membership_of, from}
 use Rattle.snapshot.specs.Writing.{Penned, row_of}
 use Rattle.snapshot.proofs.Runs.{from_end, from_more, from_append, from_none}
@@ -78,34 +77,31 @@ module _ (groups x : ℕ) where
   abbrev place_bytes : ℕ → Bytes
   place_bytes k = bytes_of (membership_of (has groups k) x k)
 
-  pub record Rowing (o : Bytes) (pen : Pen) (left : ℕ) (o' : Bytes) (pen' : Pen) : Type 0 where
+  pub record Rowing (pen : Pen) (left : ℕ) (pen' : Pen) : Type 0 where
     pub place : ℕ
     pub within : place ≤ 64
     pub word : left < 2 ^ 64
     pub from_there : (k : ℕ) → place ≤ k → has left k ≡ has groups k
     pub none_before : (k : ℕ) → k < place → has left k ≡ false
-    pub penned : Penned o pen (from place 0 place_bytes) o' pen'
+    pub penned : Penned pen (from place 0 place_bytes) pen'
 
-  pub rowing_start : (o : Bytes) (pen : Pen) → pen.needed < 2 ^ 64 → groups < 2 ^ 64 → Rowing o pen groups o pen
-  rowing_start o pen fits word =
+  pub rowing_start : (pen : Pen) → groups < 2 ^ 64 → Rowing pen groups pen
+  rowing_start pen word =
       record {
         place = 0;
         within = omega arith;
         word = word;
         from_there = λ k l. refl;
         none_before = λ k l. absurd (not-suc-le-zero l);
-        penned = penned_nothing fits (from_end 0 place_bytes);
+        penned = penned_nothing (from_end 0 place_bytes);
       }
 
   gives_nothing : (k : ℕ) → has groups k ≡ false → place_bytes k ≡ []
   gives_nothing k e = rw e
 
-  module _ {o o' : Bytes} {pen a : Pen} {left : ℕ} (w : Rowing o pen left o' a) where
-    pub rowing_length : length o' ≡ length o
-    rowing_length = w.penned.wrote.length_kept
-
+  module _ {pen a : Pen} {left : ℕ} (w : Rowing pen left a) where
     -- Nothing is left: the places from there on give nothing.
-    pub rowing_end : left ≡ 0 → Penned o pen (row_of groups x) o' a
+    pub rowing_end : left ≡ 0 → Penned pen (row_of groups x) a
     unfolding has
     rowing_end e =
         let cut : 64 ≡ w.place + (64 - w.place) = omega (arith, w.within) in
@@ -147,8 +143,8 @@ module _ (groups x : ℕ) where
       here : {y g : ℕ} → y ≡ x → g ≡ low → bytes_of (Some (Membership y g)) ≡ place_bytes low
       here e f = rw (e, f, sym (w.from_there low onward) ∙ lowest_has left some w.word)
 
-      pub rowing_next : {o'' : Bytes} {b : Pen} {y g : ℕ} → Penned o' a (bytes_of (Some (Membership y g))) o'' b → y ≡ x → g ≡ low
-          → Rowing o pen (bit_and left (2 ^ 64 - 1 - (1 * 2 ^ low) % 2 ^ 64)) o'' b
+      pub rowing_next : {b : Pen} {y g : ℕ} → Penned a (bytes_of (Some (Membership y g))) b → y ≡ x → g ≡ low
+          → Rowing pen (bit_and left (2 ^ 64 - 1 - (1 * 2 ^ low) % 2 ^ 64)) b
       rowing_next q object group =
           record {
             place = low + 1;

@@ -2,18 +2,25 @@
 use Rattle.std.specs.Prelude.{◌≡◌, ℕ, ◌+◌, ◌-◌, ◌^◌, min, length, List, Option, Some, None}
 use Rattle.std.specs.List.{slice_get}
 use Rattle.reach.specs.Words.{has}
-use Rattle.text.specs.Text.{Bytes, Wrote}
+use Rattle.text.specs.Text.{Bytes}
+use Rattle.text.specs.declared.Page.{Page}
+use Rattle.text.specs.Paging.{Puts}
 use Rattle.snapshot.specs.declared.Entry.{Entry}
-use Rattle.snapshot.specs.declared.Pen.{Pen}
+use Rattle.snapshot.specs.declared.writing.Pen.{Pen}
 use Rattle.snapshot.specs.Card.{bytes_of, membership_of, from}
 
--- The text is put into the buffer, as much of it as there is room for, and counted whole.
-pub record Penned (buffer : Bytes) (pen : Pen) (text buffer' : Bytes) (pen' : Pen) : Type 0 where
-  pub wrote : Wrote buffer pen.at text buffer' pen'.at
-  pub count : pen'.needed ≡ min (pen.needed + length text) (2 ^ 64 - 1)
+-- The buffer and the place, as a page.
+abbrev pub page_of : Pen → Page
+page_of pen = record { out = pen.out; at = pen.at }
 
-abbrev pub fresh : Pen
-fresh = record { at = 0; needed = 0 }
+-- The pen has counted n bytes. The count stops at the largest number.
+abbrev pub Counts : Pen → ℕ → Type 0
+Counts pen n = pen.needed ≡ min n (2 ^ 64 - 1)
+
+-- The text is put on the pen's page, as much of it as there is room for, and counted whole.
+pub record Penned (pen : Pen) (text : Bytes) (pen' : Pen) : Type 0 where
+  pub puts : Puts (page_of pen) text (page_of pen')
+  pub count : (n : ℕ) → Counts pen n → Counts pen' (n + length text)
 
 -- The memberships of x in the groups of a set.
 abbrev pub row_of : ℕ → ℕ → Bytes

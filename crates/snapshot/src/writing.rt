@@ -1,96 +1,127 @@
 // The writer of a card. The same walk over the places measures the file, in a buffer of no bytes, and writes it.
-ghost use Rattle.std.specs.Prelude.{◌≡◌, ◌≤◌, ◌<◌, length, get_or, Some};
+ghost use Rattle.std.specs.Prelude.{◌≡◌, ◌≤◌, ◌<◌, ◌++◌, length, take, drop, get_or, Some};
 ghost use Rattle.reach.specs.Tests.{Decides};
 ghost use Rattle.reach.specs.Tables.{view};
-ghost use Rattle.text.specs.Text.{Wrote};
+ghost use Rattle.text.specs.Paging.{Puts};
 ghost use Rattle.soundness.specs.Soundness.{Sound};
 ghost use Rattle.snapshot.specs.Card.{bytes_of, from, file_of};
 ghost use Rattle.snapshot.specs.Answers.{Writes};
-ghost use Rattle.snapshot.specs.Writing.{Penned, entry_in, row_of, fresh};
+ghost use Rattle.snapshot.specs.Writing.{Penned, entry_in, row_of};
 
 use crate::entries::Placed;
-use crate::{CardError, Entry, Pen};
+use crate::{CardError, Entry};
 use reach::Policy;
 use soundness::is_sound;
-use text::put_bytes;
+use text::Page;
+
+// How far a file is written: the lent buffer with the place of the next byte, and how many bytes the file has so far, with room for them or
+// not. It holds no page, since of a buffer that lies two structs deep the lender isn't told what became of it.
+#[derive(Drop)]
+pub struct Pen<'a> {
+    pub out: &'a mut [u8],
+    pub at: usize,
+    pub needed: usize,
+}
+
+impl<'a> Pen<'a> {
+    // At the start of the buffer.
+    fn new(out: &'a mut [u8]) -> Pen<'a>
+        ensures place { result.at ≡ 0 }
+        ensures needed { result.needed ≡ 0 }
+        ensures bytes { result.out.now ≡ out.old }
+        ensures same { result.out.ghost_name ≡ out.entry.ghost_name }
+    {
+        Pen {
+            out,
+            at: 0,
+            needed: 0,
+        }
+    }
+
+    // What stands at a place, written and counted. The count stops at the largest number, which no file comes near.
+    fn entry(&mut self, e: Option<Entry>)
+        ensures { Penned self.old (bytes_of e) self.new }
+    {
+        if let Some(e) = e {
+            let mut page = Page {
+                out: &mut *self.out,
+                at: self.at,
+            };
+            put_entry(&mut page, e);
+            self.at = page.at;
+            self.needed = self.needed.saturating_add(e.size());
+        }
+    }
+
+    // What stands at the places of a table, of 64 at the most.
+    fn table<T: Placed, const N: usize>(&mut self, table: &[T; N])
+        requires { N ≤ 64 }
+        ensures { Penned self.old (from N 0 (λ i. bytes_of (entry_in T.entry_of table.now i))) self.new }
+    {
+        for (i, w) in table.iter().enumerate() {
+            self.entry(w.entry(i as u8));
+        }
+    }
+
+    // The memberships of x in these groups, the lowest first.
+    fn row(&mut self, groups: u64, x: u8)
+        ensures { Penned self.old (row_of groups x) self.new }
+    {
+        let mut left = groups;
+        while left != 0 {
+            let g = left.trailing_zeros();
+            self.entry(Some(Entry::Membership(x, g as u8)));
+            left &= !(1 << g);
+        }
+    }
+
+    // The memberships, object by object.
+    fn memberships(&mut self, memberships: &[u64; 64])
+        ensures { Penned self.old (from 64 0 (λ x. row_of (get_or memberships.now x 0) x)) self.new }
+    {
+        for (x, groups) in memberships.iter().enumerate() {
+            self.row(*groups, x as u8);
+        }
+    }
+
+    // The file.
+    fn card(&mut self, p: &Policy)
+        ensures { Penned self.old (file_of (view p.now)) self.new }
+    {
+        self.table(&p.sorts);
+        self.memberships(&p.memberships);
+        self.table(&p.appointments);
+        self.table(&p.rules);
+    }
+}
 
 // The record of an entry.
-fn put_entry(out: &mut [u8], n: usize, e: Entry) -> usize
-    ensures { Wrote out.old n (bytes_of (Some e)) out.new result }
+fn put_entry(page: &mut Page, e: Entry)
+    ensures { Puts page.old (bytes_of (Some e)) page.new }
 {
     match e {
-        Entry::Object(x, s) => put_bytes(out, n, &[6, 0, 16, 0, x, s]),
-        Entry::Membership(x, g) => put_bytes(out, n, &[6, 0, 17, 0, x, g]),
-        Entry::Appointed(i, k, h, a, b) => put_bytes(out, n, &[9, 0, 18, 0, i, k, h, a, b]),
-        Entry::Granted(i, u, t, o) => put_bytes(out, n, &[8, 0, 19, 0, i, u, t, o]),
+        Entry::Object(x, s) => page.bytes(&[6, 0, 16, 0, x, s]),
+        Entry::Membership(x, g) => page.bytes(&[6, 0, 17, 0, x, g]),
+        Entry::Appointed(i, k, h, a, b) => page.bytes(&[9, 0, 18, 0, i, k, h, a, b]),
+        Entry::Granted(i, u, t, o) => page.bytes(&[8, 0, 19, 0, i, u, t, o]),
     }
 }
 
-// What stands at a place, written and counted. The count stops at the largest number, which no file comes near.
-fn pen_entry(out: &mut [u8], pen: Pen, e: Option<Entry>) -> Pen
-    ensures { Penned out.old pen (bytes_of e) out.new result }
+// Writes the file over the first of the bytes, as much of it as there is room for, and answers its length.
+fn pen_card(p: &Policy, out: &mut [u8]) -> usize
+    ensures bytes { out.new ≡ take (length out.old) (file_of (view p.now)) ++ drop (length (file_of (view p.now))) out.old }
+    ensures count { result ≡ length (file_of (view p.now)) }
 {
-    match e {
-        Some(e) => Pen {
-            at: put_entry(out, pen.at, e),
-            needed: pen.needed.saturating_add(e.size()),
-        },
-        None => pen,
-    }
-}
-
-// What stands at the places of a table, of 64 at the most.
-fn pen_table<T: Placed, const N: usize>(table: &[T; N], out: &mut [u8], pen: Pen) -> Pen
-    requires { N ≤ 64 }
-    ensures { Penned out.old pen (from N 0 (λ i. bytes_of (entry_in T.entry_of table.now i))) out.new result }
-{
-    let mut so_far = pen;
-    for (i, w) in table.iter().enumerate() {
-        so_far = pen_entry(out, so_far, w.entry(i as u8));
-    }
-    so_far
-}
-
-// The memberships of x in these groups, the lowest first.
-fn pen_row(groups: u64, x: u8, out: &mut [u8], pen: Pen) -> Pen
-    ensures { Penned out.old pen (row_of groups x) out.new result }
-{
-    let mut left = groups;
-    let mut so_far = pen;
-    while left != 0 {
-        let g = left.trailing_zeros();
-        so_far = pen_entry(out, so_far, Some(Entry::Membership(x, g as u8)));
-        left &= !(1 << g);
-    }
-    so_far
-}
-
-// The memberships, object by object.
-fn pen_memberships(memberships: &[u64; 64], out: &mut [u8], pen: Pen) -> Pen
-    ensures { Penned out.old pen (from 64 0 (λ x. row_of (get_or memberships.now x 0) x)) out.new result }
-{
-    let mut so_far = pen;
-    for (x, groups) in memberships.iter().enumerate() {
-        so_far = pen_row(*groups, x as u8, out, so_far);
-    }
-    so_far
-}
-
-// The file.
-fn pen_card(p: &Policy, out: &mut [u8]) -> Pen
-    ensures { Penned out.old fresh (file_of (view p.now)) out.new result }
-{
-    let objects = pen_table(&p.sorts, out, Pen { at: 0, needed: 0 });
-    let memberships = pen_memberships(&p.memberships, out, objects);
-    let appointments = pen_table(&p.appointments, out, memberships);
-    pen_table(&p.rules, out, appointments)
+    let mut pen = Pen::new(out);
+    pen.card(p);
+    pen.needed
 }
 
 // The length of the file.
 fn file_length(p: &Policy) -> usize
     ensures { result ≡ length (file_of (view p.now)) }
 {
-    pen_card(p, &mut []).needed
+    pen_card(p, &mut [])
 }
 
 // Whether the file of a sound policy needs more bytes than there are. Bytes for the largest file are enough for any, and need no measuring.
@@ -112,5 +143,5 @@ pub fn write_card(p: Policy, card: &mut [u8]) -> Result<usize, CardError>
     if too_few(card.len(), &p) {
         return Err(CardError::Short);
     }
-    Ok(pen_card(&p, card).needed)
+    Ok(pen_card(&p, card))
 }

@@ -1,6 +1,6 @@
 -- Decimal numbers as the program works them: below 10 one digit, and from there on the digits of the tenth and one more. Each digit
 -- divides what is left by ten, so a bound of x on the number of digits cuts nothing off.
-use mathlib.Core.Path.{◌≡◌, refl, ap, ◌∙◌}
+use mathlib.Core.Path.{◌≡◌, refl, sym, ap, ◌∙◌}
 use mathlib.Core.List.{[], ◌∷◌, ◌++◌}
 use Prim.Native.Nat.{ℕ, zero, suc, ◌+◌, ◌*◌, ◌/◌, ◌%◌, ◌^◌, ◌≤◌, ◌<◌}
 use native.Mathlib.Nat.{pow-suc}
@@ -38,21 +38,27 @@ decimal_digit x h =
     let last : x % 10 ≡ x = omega arith in
     rw (tenth, last, digits_zero x)
 
+-- It is its last digit.
+pub decimal_last : (x : ℕ) → x < 10 → (last_digit x ∷ []) ≡ decimal x
+decimal_last x h = let e : x % 10 ≡ x = omega arith in rw (e, decimal_digit x h)
+
 -- From 10 on a number is its tenth and its last digit.
 pub decimal_more : (x : ℕ) → 10 ≤ x → decimal x ≡ decimal (x / 10) ++ (last_digit x ∷ [])
 unfolding decimal
 decimal_more x h = rw (digits_decimal x (x / 10) (omega arith) (omega arith))
 
 -- Two digits, and three.
-pub decimal_two : (x : ℕ) → 10 ≤ x → x < 100 → decimal x ≡ ((48 + x / 10) ∷ []) ++ (last_digit x ∷ [])
+pub decimal_two : (x : ℕ) → 10 ≤ x → x < 100 → decimal x ≡ (last_digit (x / 10) ∷ []) ++ (last_digit x ∷ [])
 decimal_two x l h =
-    decimal_more x l ∙ ap (λ (t : Bytes). t ++ (last_digit x ∷ [])) (decimal_digit (x / 10) (omega (arith, h)))
+    decimal_more x l ∙ ap (λ (t : Bytes). t ++ (last_digit x ∷ [])) (sym (decimal_last (x / 10) (omega (arith, h))))
 
 pub decimal_three : (x : ℕ) → 100 ≤ x → x < 1000
-    → decimal x ≡ (((48 + x / 10 / 10) ∷ []) ++ (last_digit (x / 10) ∷ [])) ++ (last_digit x ∷ [])
+    → decimal x ≡ (((48 + x / 100) ∷ []) ++ (last_digit (x / 10) ∷ [])) ++ (last_digit x ∷ [])
 decimal_three x l h =
-    decimal_more x (omega (arith, l))
-    ∙ ap (λ (t : Bytes). t ++ (last_digit x ∷ [])) (decimal_two (x / 10) (omega (arith, l)) (omega (arith, h)))
+    let first : 48 + x / 100 ≡ last_digit (x / 10 / 10) = omega (arith, h) in
+    rw first
+    (decimal_more x (omega (arith, l))
+    ∙ ap (λ (t : Bytes). t ++ (last_digit x ∷ [])) (decimal_two (x / 10) (omega (arith, l)) (omega (arith, h))))
 
 -- A number below a power of ten has at most so many digits.
 pub decimal_length : (k x : ℕ) → x < 10 ^ suc k → length (decimal x) ≤ suc k

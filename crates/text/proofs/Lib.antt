@@ -5,3 +5,4 @@ pub mod Numerals
 pub mod Printing
 pub mod Lengths
 pub mod Feeds
+pub mod Paging

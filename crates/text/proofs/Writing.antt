@@ -99,11 +99,6 @@ wrote_then {a} {v} {b} {n = n} {m} {r} p q = record {
   rest_kept = q.rest_kept ∙ drop_further b a p.rest_kept q.onward;
 }
 
--- A text and behind it one byte, however that byte was worked out.
-pub wrote_sign : {a v b c : Bytes} {n m r byte : ℕ} (sign : ℕ) → Wrote a n v b m → Wrote b m (byte ∷ []) c r → byte ≡ sign
-    → Wrote a n (v ++ (sign ∷ [])) c r
-wrote_sign sign p q e = wrote_then p (rw e at q)
-
 -- As much of a text as there is room for, in the place of so many bytes of the buffer.
 module _ (a w : Bytes) (n k : ℕ) (low : n < length a) (many : k ≡ min (length w) (length a - n)) where
   abbrev pub filled : Bytes

@@ -4,7 +4,7 @@ use Rattle.queue_run.proofs.Reporting.{printed_too_long, printed_report}
 use Rattle.queue_run.proofs.output.Goals as goal
 
 pub returns-then-input-gt65536 : goal.returns-then-input-gt65536
-returns-then-input-gt65536 c = printed_too_long _ (omega (arith, c.if-input-gt65536.true)) c.put_bytes.ensures
+returns-then-input-gt65536 c = printed_too_long _ (omega (arith, c.if-input-gt65536.true)) c.print.ensures
 
 pub returns : goal.returns
 returns c = printed_report _ (omega (arith, c.if-input-gt65536.false)) c.report.ensures

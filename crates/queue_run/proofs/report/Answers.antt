@@ -1,5 +1,5 @@
 -- `report` prints the lines of the records: each record, and a torn place, adds its line.
-use mathlib.Core.Path.{◌≡◌, ap, ◌∙◌}
+use mathlib.Core.Path.{◌≡◌, refl, ap, ◌∙◌}
 use mathlib.Core.Logic.{inl}
 use mathlib.Core.List.{◌∷◌}
 use Prim.Native.Nat.{◌<◌, ◌^◌}
@@ -23,7 +23,8 @@ loop-index-init c =
     record {
       can = (tt, tt, inl (rw (zero, from) (omega (arith, short, steps_items c.args.input.now, steps_few c.args.input.now))));
       ends = tt;
-      reporting = reporting_start _ _ c.founded-club.ensures from zero;
+      reporting = reporting_start _ _ c.founded-club.ensures from zero c.new-page.ensures.place;
+      same = refl;
     }
 
 pub loop-index-preserved-in-Ok : goal.loop-index-preserved-in-Ok
@@ -35,7 +36,8 @@ loop-index-preserved-in-Ok c =
       reporting =
           reporting_record _ _ c.loop-index.invariant.reporting steps.2
           (steps.0.first ∙ ap (λ r. item r ∷ left c.next.new.self.iter) c.in-Ok.is) c.taken_in-told.ensures
-          (rw steps.1 at c.put_told-written.ensures);
+          (rw steps.1 at c.put_told.ensures.wrote);
+      same = c.put_told.ensures.same ∙ c.loop-index.invariant.same;
     }
 
 pub loop-index-preserved : goal.loop-index-preserved
@@ -47,8 +49,11 @@ loop-index-preserved c =
       reporting =
           reporting_torn _ _ c.loop-index.invariant.reporting steps.2
           (steps.0.first ∙ ap (λ r. item r ∷ left c.next.new.self.iter) c.in-Err.is)
-          (rw steps.1 at c.put_line-written.ensures);
+          (rw steps.1 at c.line.ensures.wrote);
+      same = c.line.ensures.same ∙ c.loop-index.invariant.same;
     }
 
 pub returns : goal.returns
-returns c = reporting_end _ _ c.loop-index.invariant.reporting c.in-None.ensures.steps.0.first.0
+returns c =
+    let all = reporting_end _ _ c.loop-index.invariant.reporting c.in-None.ensures.steps.0.first.0 in
+    search (rules, rw c.new-page.ensures.bytes at all)

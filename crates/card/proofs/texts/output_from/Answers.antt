@@ -4,7 +4,7 @@ use Rattle.card.proofs.Loading.{printed_long, printed_judged}
 use Rattle.card.proofs.texts.output_from.Goals as goal
 
 pub returns-then-input-gt65536 : goal.returns-then-input-gt65536
-returns-then-input-gt65536 c = printed_long _ _ (omega (arith, c.if-input-gt65536.true)) c.put_bytes.ensures
+returns-then-input-gt65536 c = printed_long _ _ (omega (arith, c.if-input-gt65536.true)) c.print.ensures
 
 pub returns : goal.returns
 returns c = printed_judged _ _ (omega (arith, c.if-input-gt65536.false)) c.report_from.ensures.text

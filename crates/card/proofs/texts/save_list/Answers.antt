@@ -7,7 +7,7 @@ use Rattle.card.proofs.texts.save_list.Goals as goal
 pub returns-then-input-gt65536-clause-saves : goal.returns-then-input-gt65536-clause-saves
 returns-then-input-gt65536-clause-saves c =
     let room : length c.args.line.now ≡ 16 = search rules in
-    saves_long _ (omega (arith, c.if-input-gt65536.true)) room c.put_bytes.ensures
+    saves_long _ (omega (arith, c.if-input-gt65536.true)) room c.print.ensures
 
 pub returns-clause-saves : goal.returns-clause-saves
 returns-clause-saves c =

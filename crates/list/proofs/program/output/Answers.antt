@@ -7,7 +7,7 @@ use Rattle.list.proofs.program.output.Goals as goal
 
 pub returns-then-input-gt65536 : goal.returns-then-input-gt65536
 returns-then-input-gt65536 c = record {
-  printed = printed_too_long _ (omega (arith, c.if-input-gt65536.true)) c.put_bytes.ensures (omega arith);
+  printed = printed_too_long _ (omega (arith, c.if-input-gt65536.true)) c.print.ensures (omega arith);
   founding_demand3 = third _;
 }
 

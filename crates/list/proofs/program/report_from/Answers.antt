@@ -1,4 +1,4 @@
-use mathlib.Core.Path.{◌≡◌, ap, ◌∙◌}
+use mathlib.Core.Path.{◌≡◌, refl, ap, ◌∙◌}
 use mathlib.Core.Logic.{inl}
 use mathlib.Core.List.{◌∷◌}
 use Prim.Native.Nat.{◌<◌, ◌^◌}
@@ -23,14 +23,15 @@ loop-index-init c =
     record {
       can = (tt, tt, inl (rw (zero, from) (omega (arith, short, steps_items c.args.input.now, steps_few c.args.input.now))));
       ends = tt;
-      reporting = reporting_start _ _ _ from zero;
+      reporting = reporting_start _ _ _ from zero c.new-page.ensures.place;
+      same = refl;
     }
 
 pub loop-index-preserved : goal.loop-index-preserved
 loop-index-preserved c =
     let steps = c.in-Some.ensures.steps in
     let here = c.loop-index.invariant.reporting in
-    let wrote = rw steps.1 at c.put_line-written.ensures in
+    let wrote = rw steps.1 at c.line.ensures.wrote in
     record {
       can = c.in-Some.ensures.goes.keeps;
       ends = tt;
@@ -43,7 +44,10 @@ loop-index-preserved c =
             (reporting_torn _ _ _ here steps.2 (steps.0.first ∙ ap (λ r. item r ∷ left c.next.new.self.iter) w.in-Err.is)
             (rw w.code-is at wrote))
       ];
+      same = c.line.ensures.same ∙ c.loop-index.invariant.same;
     }
 
 pub returns : goal.returns
-returns c = reporting_end _ _ _ c.loop-index.invariant.reporting c.in-None.ensures.steps.0.first.0
+returns c =
+    let all = reporting_end _ _ _ c.loop-index.invariant.reporting c.in-None.ensures.steps.0.first.0 in
+    search (rules, rw c.new-page.ensures.bytes at all)

@@ -8,4 +8,4 @@ returns-in-Event c = rw c.in-Event.is c.put_event.ensures
 
 pub returns-in-Judged : goal.returns-in-Judged
 unfolding told_line
-returns-in-Judged c = rw (c.in-Judged.is, ← c.code_of.ensures, ← c.cited_of.ensures) c.put_line.ensures
+returns-in-Judged c = rw (c.in-Judged.is, ← c.code_of.ensures, ← c.cited_of.ensures) c.line.ensures

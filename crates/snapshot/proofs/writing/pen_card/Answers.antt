@@ -1,15 +1,10 @@
--- The four parts follow each other as in the file.
-use Rattle.snapshot.specs.Card.{in_order}
-use Rattle.snapshot.proofs.Penning.{penned_as, penned_then, objects_are, memberships_are, appointments_are, rules_are}
+use Rattle.std.proofs.Common.{rules}
+use Rattle.snapshot.proofs.Largest.{file_fits}
+use Rattle.snapshot.proofs.Penning.{bytes_of_penned, length_of_penned}
 use Rattle.snapshot.proofs.writing.pen_card.Goals as goal
 
-pub returns : goal.returns
-unfolding in_order
-returns c =
-    let p = c.args.p.now in
-    penned_then
-    (penned_then
-    (penned_then (penned_as (objects_are p) c.pen_table-objects.ensures)
-    (penned_as (memberships_are p) c.pen_memberships-memberships.ensures))
-    (penned_as (appointments_are p) c.pen_table-appointments.ensures))
-    (penned_as (rules_are p) c.pen_table.ensures)
+pub returns-clause-bytes : goal.returns-clause-bytes
+returns-clause-bytes c = search (rules, bytes_of_penned c.new-pen.ensures.place c.new-pen.ensures.bytes c.card.ensures, c.card.ensures.puts.same)
+
+pub returns-clause-count : goal.returns-clause-count
+returns-clause-count c = length_of_penned c.new-pen.ensures.needed c.card.ensures (file_fits _)

@@ -2,8 +2,7 @@
 use Rattle.std.proofs.Common.{arith, ap, ℕ, ◌≤◌, ◌<◌, Ok, refl}
 use Rattle.reach.proofs.Testing.{refuted}
 use Rattle.snapshot.specs.Answers.{Writes}
-use Rattle.snapshot.proofs.Largest.{file_fits}
-use Rattle.snapshot.proofs.Penning.{over_of_penned, length_of_penned}
+use Rattle.snapshot.proofs.Penning.{over_of_bytes}
 use Rattle.snapshot.proofs.writing.write_card.Goals as goal
 
 enough : (room n : ℕ) → (room < n → ⊥) → n ≤ room
@@ -22,10 +21,9 @@ returns-then-too_few c =
 
 pub returns : goal.returns
 returns c =
-    let penned = c.pen_card.ensures in
     let room = enough _ _ (refuted c.too_few.ensures c.if-too_few.false) in
     Writes.done
     (c.is_sound.ensures.sound c.if-not-is_sound.false)
     room
-    (ap (λ (n : ℕ). Ok n) (length_of_penned penned (file_fits _)))
-    (over_of_penned penned room)
+    (ap (λ (n : ℕ). Ok n) c.pen_card.ensures.count)
+    (over_of_bytes _ _ c.pen_card.ensures.bytes room)

@@ -2,8 +2,8 @@
 use Rattle.std.proofs.Common.{get_or}
 use Rattle.snapshot.specs.Card.{from}
 use Rattle.snapshot.specs.Writing.{Penned, row_of}
-use Rattle.snapshot.proofs.writing.pen_memberships.Given as goal
+use Rattle.snapshot.proofs.writing.Pen.memberships.Given as goal
 
 abbrev pub invariant-loop-x : goal.invariant-loop-x
 invariant-loop-x l =
-    Penned l.initial.out l.initial.so_far (from l.x 0 (λ y. row_of (get_or l.memberships y 0) y)) l.out l.so_far
+    Penned l.initial.self (from l.x 0 (λ y. row_of (get_or l.memberships y 0) y)) l.self

@@ -1,11 +1,11 @@
 use native.Mathlib.Omega.{arith}
 use Rattle.snapshot.proofs.Rowing.{rest_less, lowest_low, rowing_start}
-use Rattle.snapshot.proofs.Rowing.{rowing_length, rowing_next, rowing_end}
+use Rattle.snapshot.proofs.Rowing.{rowing_next, rowing_end}
 use Rattle.std.proofs.Common.{rules}
-use Rattle.snapshot.proofs.writing.pen_row.Goals as goal
+use Rattle.snapshot.proofs.writing.Pen.row.Goals as goal
 
 pub loop-left-init : goal.loop-left-init
-loop-left-init c = rowing_start _ _ _ _ (search rules) (search rules)
+loop-left-init c = rowing_start _ _ _ (search rules)
 
 pub overflow_cast-left : goal.overflow_cast-left
 overflow_cast-left c = search (rules, lowest_low _ c.loop-left-test.true c.loop-left.invariant.word)
@@ -18,10 +18,7 @@ loop-left-smaller c = rest_less _ c.loop-left-test.true c.loop-left.invariant.wo
 
 pub loop-left-preserved : goal.loop-left-preserved
 loop-left-preserved c =
-    rowing_next _ _ c.loop-left.invariant c.loop-left-test.true c.pen_entry-so_far.ensures (omega arith) (omega arith)
-
-pub shape_of-out : goal.shape_of-out
-shape_of-out c = rowing_length _ _ c.loop-left.invariant
+    rowing_next _ _ c.loop-left.invariant c.loop-left-test.true c.entry.ensures (omega arith) (omega arith)
 
 pub returns : goal.returns
 returns c = rowing_end _ _ c.loop-left.invariant c.loop-left-test.false
