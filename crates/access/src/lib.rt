@@ -14,7 +14,7 @@ pub fn use_verdict(p: Policy, u: u8, x: u8, k: u8) -> Verdict
     ensures { result ≡ use_verdict p u x k }
 {
     let record = [7u8, 0, 8, 0, u, x, k];
-    decide(p, &record).verdict
+    decide(&p, &record).verdict
 }
 
 // The number of that: 0, or the number of the refusal.

@@ -36,7 +36,7 @@ pub fn permission_gained(p: Policy, u: u8, q: Request) -> Option<Permission>
 pub fn own_gain_of(p: Policy, bytes: &[u8]) -> Option<Permission>
     ensures { OwnGainOf p bytes.now result }
 {
-    let decision = decide(p, bytes);
+    let decision = decide(&p, bytes);
     if decision.verdict != Err(Refusal::OwnGain) {
         return None;
     }

@@ -98,15 +98,15 @@ fn verdict_on(p: &Policy, bytes: &[u8], u: u8, q: Request) -> Verdict
 // Decides one record on one policy, for every policy and all bytes: who sends it, what it asks for, and the verdict that the rules give. No
 // policy is handed back, so that a refusal copies none; that the decision, carried out, is the answer of the judge is a law (proofs/Ordered,
 // `decided_answer`).
-pub fn decide(p: Policy, bytes: &[u8]) -> Decision
-    ensures { result ≡ decided p bytes.now }
+pub fn decide(p: &Policy, bytes: &[u8]) -> Decision
+    ensures { result ≡ decided p.now bytes.now }
 {
     let sender = byte(bytes, 4);
     let request = request_of(bytes);
     Decision {
         sender,
         request,
-        verdict: verdict_on(&p, bytes, sender, request),
+        verdict: verdict_on(p, bytes, sender, request),
     }
 }
 
@@ -116,7 +116,7 @@ pub fn judge(p: Policy, bytes: &[u8]) -> Answer
     ensures value { result ≡ judge p bytes.now }
     ensures one_answer { OneAnswer p result }
 {
-    let decision = decide(p, bytes);
+    let decision = decide(&p, bytes);
     let verdict = decision.verdict;
     let policy = match verdict {
         Ok(None) => after(p, decision.request),

@@ -1,6 +1,7 @@
 // The run of a whole list, which is handed in as bytes and the ends of its records.
 ghost use Rattle.std.specs.Prelude.{◌≡◌};
 ghost use Rattle.reach.specs.Tables.{initial};
+ghost use Rattle.rules.specs.Doing.{after};
 ghost use Rattle.rules.specs.Judging.{numbers_of, judge};
 ghost use Rattle.list.specs.Parts.{part, handed};
 ghost use Rattle.list.specs.Filling.{RunInto};
@@ -8,19 +9,28 @@ ghost use Rattle.list.specs.Demand.{FoundingDemand3};
 
 use judge::{after, cited_of, code_of, decide};
 use reach::Policy;
+use rules::Request;
+
+// The request carried out. It is a function of its own, so that what it costs to hand back a policy is spent on requests that change one.
+fn carry_out(policy: &mut Policy, q: Request)
+    ensures { policy.new ≡ after policy.old q }
+{
+    *policy = after(*policy, q);
+}
 
 // The code of the answer to a record, and the rule that it cites. The policy is the one after the record.
 pub(crate) fn answered(policy: &mut Policy, bytes: &[u8]) -> (u8, u8)
     ensures numbers { result ≡ numbers_of (judge policy.old bytes.now).verdict }
     ensures policy { policy.new ≡ (judge policy.old bytes.now).policy }
 {
-    let decision = decide(*policy, bytes);
+    let decision = decide(policy, bytes);
     let code = code_of(decision.verdict);
     let cited = cited_of(decision.verdict);
-    // A refusal leaves the policy as it stood, and so does a USE, which cites a rule.
+    // A refusal leaves the policy as it stood, and so does a USE, which cites a rule. The two numbers are asked, which are written anyway, so
+    // that a wrong one is a wrong policy (D33): the edits `does_what_it_refuses` and `run_drops_what_was_done` are of these tests.
     if code == 0 {
         if cited == 255 {
-            *policy = after(*policy, decision.request);
+            carry_out(policy, decision.request);
         }
     }
     (code, cited)

@@ -21,7 +21,8 @@ impl Policy {
         if !self.is_user(u) {
             return Posts::default();
         }
-        posts_of(&self.appointments, u)
+        let appointments = self.appointments;
+        posts_of(&appointments, u)
     }
 
     // All that u owns.

@@ -44,6 +44,17 @@ fn at<T: Copy, const N: usize>(table: &[T; N], i: u8, none: T) -> T
     table.get(i as usize).copied().unwrap_or(none)
 }
 
+// The sort of x by the lent table, as it counts; none for an empty object or a number past the table.
+fn sort_at(sorts: &[u8; 64], x: u8) -> Option<Sort>
+    ensures { sort_number result ≡ sort_in sorts.now x }
+{
+    if x < 64 {
+        Sort::of(sorts[x as usize])
+    } else {
+        None
+    }
+}
+
 // The appointment at place i; past the table there is none.
 pub fn appointment_at(appointments: &[Appointment; 32], i: u8) -> Appointment
     ensures { result ≡ get_or appointments.now i no_appointment }
@@ -63,39 +74,35 @@ impl<'a> Objects<'a> {
     pub fn sort(self, x: u8) -> Option<Sort>
         ensures { sort_number result ≡ sort_in self.entry.sorts.now x }
     {
-        if x < 64 {
-            Sort::of(self.sorts[x as usize])
-        } else {
-            None
-        }
+        sort_at(self.sorts, x)
     }
 
     // Whether x is an object in use.
     pub fn in_use(self, x: u8) -> bool
         ensures { result ≡ ltb 0 (sort_in self.entry.sorts.now x) }
     {
-        self.sort(x).is_some()
+        sort_at(self.sorts, x).is_some()
     }
 
     // Whether x is a group.
     pub fn is_group(self, x: u8) -> bool
         ensures { result ≡ eqb (sort_in self.entry.sorts.now x) 1 }
     {
-        self.sort(x) == Some(Sort::Group)
+        sort_at(self.sorts, x) == Some(Sort::Group)
     }
 
     // Whether x is a user, document 01's member.
     pub fn is_user(self, x: u8) -> bool
         ensures { result ≡ eqb (sort_in self.entry.sorts.now x) 2 }
     {
-        self.sort(x) == Some(Sort::User)
+        sort_at(self.sorts, x) == Some(Sort::User)
     }
 
     // Whether x is a target, document 01's gear.
     pub fn is_target(self, x: u8) -> bool
         ensures { result ≡ eqb (sort_in self.entry.sorts.now x) 3 }
     {
-        self.sort(x) == Some(Sort::Target)
+        sort_at(self.sorts, x) == Some(Sort::Target)
     }
 
     // Whether x is directly in the group g, by a membership that counts.
@@ -149,39 +156,42 @@ impl Policy {
         p
     }
 
-    // The sort of object x as it counts; none for an empty object or a number past the table.
+    // The sort of object x as it counts; none for an empty object or a number past the table. The sorts are taken by `let`, which copies them
+    // alone: to lend them from a policy held by value copies all of it.
+    #[tactic(auto, unfolding(crate::specs::Tables::sort))]
     pub fn sort(self, x: u8) -> Option<Sort>
         ensures { sort_number result ≡ sort self x }
     {
-        self.objects().sort(x)
+        let sorts = self.sorts;
+        sort_at(&sorts, x)
     }
 
     // Whether x is an object in use.
     pub fn in_use(self, x: u8) -> bool
         ensures { result ≡ in_use self x }
     {
-        self.objects().in_use(x)
+        self.sort(x).is_some()
     }
 
     // Whether x is a group.
     pub fn is_group(self, x: u8) -> bool
         ensures { result ≡ is_group self x }
     {
-        self.objects().is_group(x)
+        self.sort(x) == Some(Sort::Group)
     }
 
     // Whether x is a user, document 01's member.
     pub fn is_user(self, x: u8) -> bool
         ensures { result ≡ is_user self x }
     {
-        self.objects().is_user(x)
+        self.sort(x) == Some(Sort::User)
     }
 
     // Whether x is a target, document 01's gear.
     pub fn is_target(self, x: u8) -> bool
         ensures { result ≡ is_target self x }
     {
-        self.objects().is_target(x)
+        self.sort(x) == Some(Sort::Target)
     }
 
     // Whether x is stored as directly in g.

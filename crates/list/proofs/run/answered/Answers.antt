@@ -8,7 +8,7 @@ use Rattle.list.proofs.run.answered.Goals as goal
 
 pub returns-then-cited-clause-policy : goal.returns-then-cited-clause-policy
 returns-then-cited-clause-policy c =
-    leaves_after _ c.decide-decision.result (omega (arith, c.code_of-code.ensures, c.if-code-eq0.true)) c.after.ensures
+    leaves_after _ c.decide-decision.result (omega (arith, c.code_of-code.ensures, c.if-code-eq0.true)) c.carry_out.ensures
     ∙ ap (λ (a : Answer). a.policy) (decided_answer _ _ c.decide-decision.ensures)
 
 pub returns-else-cited-clause-policy : goal.returns-else-cited-clause-policy

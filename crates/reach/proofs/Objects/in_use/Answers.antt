@@ -5,4 +5,4 @@ use Rattle.reach.proofs.Sorts.{some_sort}
 use Rattle.reach.proofs.Objects.in_use.Goals as goal
 
 pub returns : goal.returns
-returns c = c.is_some.ensures ∙ some_sort _ ∙ ap (ltb 0) c.sort.ensures
+returns c = c.is_some.ensures ∙ some_sort _ ∙ ap (ltb 0) c.sort_at.ensures

@@ -1,7 +1,0 @@
--- `is_user` reads the sorts that are lent.
-use Rattle.reach.specs.Tables.{sort}
-use Rattle.reach.proofs.Policy.is_user.Goals as goal
-
-pub returns : goal.returns
-unfolding sort
-returns c = rw (c.is_user.ensures, c.objects.ensures.sorts)
