@@ -1,4 +1,5 @@
-// Questions on the policy of a picture, for C and Rust: each is answered by the policy's own method. Where the picture isn't 960 bytes
+// Questions on the policy of a picture, for C and Rust: each is answered by the policy's own method, and has an entry of its own, since C calls it
+// by its name. Where the picture isn't 960 bytes
 // or the buffer is too short for the answer, nothing is written, and the result is 0. The founding's picture is here too.
 ghost use Rattle.std.specs.Prelude.{◌≡◌, [], ◌∷◌, leb, length};
 ghost use Rattle.reach.specs.Tables.{view, sort, sort_number};

@@ -66,7 +66,8 @@ fn meets(posts: Posts, set: u64) -> bool
 
 // Checks 10 and 11 of a PUT by a user of an object in use. Into what is no group, and where the object is under the group already, it gives
 // nothing. Else its sender gains exactly if he holds the group and not the object in one of the two ways, or a pair comes, or a permission is
-// found; and it hands over exactly if he does not own the object, and some user holds the group and not the object.
+// found; and it hands over exactly if he does not own the object, and some user holds the group and not the object. The policy goes by value:
+// behind a reference nothing says how long its tables are, which the laws of a successor ask.
 fn put_gives(p: Policy, u: u8, x: u8, g: u8, asked: Placing) -> Result<(), Refusal>
     ensures { Placed p u x g asked → result ≡ given_by p u (Put x g) }
 {

@@ -61,7 +61,7 @@ pub fn fresh(had: u64, got: u64, before: u64, after: u64) -> bool
 }
 
 // The first target and operation such that the groups granted for it meet what the target is under once x is put where `over` is above, and
-// those granted before met nothing that it is under before.
+// those granted before met nothing that it is under before. The two tables are no struct: `gained`, which others call, takes them as they are.
 pub fn first_fresh(p: &Policy, had: [u64; 8], got: [u64; 8], x: u8, over: u64) -> Option<Permission>
     ensures { FirstFresh (Fresh p.now.sorts p.now.memberships had got x over) result }
 {

@@ -32,6 +32,7 @@ pub fn read_full<R: Read>(reader: &mut R, buffer: &mut [u8]) -> io::Result<usize
     ensures bytes { IfOk result (λ n. Consumes (R.remaining reader.old) (R.remaining reader.new) (take n buffer.new)) }
     ensures end { IfOk result (λ n. n < length buffer.new → IsAtEnd (R.remaining reader.new)) }
 {
+    // The loop goes by places: `read_exact` of the library fails at an input that ends before, and `read_to_end` needs a heap.
     let mut done: usize = 0;
     while done < buffer.len() {
         let more = reader.read(&mut buffer[done..])?;

@@ -39,7 +39,8 @@ pub fn report(input: &[u8], out: &mut [u8]) -> usize
     told.written
 }
 
-// The report, for an input of at most 65,536 bytes; for a longer one the line that says so.
+// The report, for an input of at most 65,536 bytes; for a longer one the line that says so. The program for turns and the one for cards test
+// it too, each before a report of its own: one function for the three would take the report, and ask of its callers that it may be called.
 pub fn output(input: &[u8], out: &mut [u8]) -> usize
     ensures printed { Printed out.old (output input.now) out.new result }
     ensures founding_demand3 { FoundingDemand3 (records_from input.now 0) }

@@ -43,7 +43,7 @@ fn part(bytes: &[u8], start: usize, end: usize) -> &[u8]
     bytes.get(start..end).unwrap_or(&[])
 }
 
-// Runs a list from any policy, and answers the policy that it leaves. Where one of the two buffers has no room for all answers, nothing is
+// Runs a list from any policy, and answers the policy that it leaves. Codes and cited rules are two buffers, as C lends them (`selkaum_run`). Where one of the two buffers has no room for all answers, nothing is
 // judged or written.
 pub fn run_from(
     p: Policy,

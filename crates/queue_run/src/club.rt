@@ -25,7 +25,7 @@ pub struct Club {
     pub queue: Queue,
 }
 
-// What came of a record: an event with its number, or the verdict on it.
+// What came of a record: an event with its number, as `after_join` gives it (of the events only a join is ever refused), or the verdict on it.
 #[derive(Clone, Copy, Debug, PartialEq, Eq)]
 pub enum Outcome {
     Event(u8),

@@ -6,7 +6,7 @@ use reach::Policy;
 use std::io;
 use std::io::Write;
 
-// All b such that u administers (a, b); no line where there is none.
+// All b such that u administers (a, b); no line where there is none, so that the `line` of one number (above.rt) does not serve.
 fn line<W: Write>(out: &mut W, p: Policy, u: u8, a: u8) -> io::Result<()> {
     let set = p.administered(u, a);
     head_of_some(out, set, b"administers", u, a)?;

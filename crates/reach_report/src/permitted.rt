@@ -15,7 +15,7 @@ fn item_at<W: Write>(out: &mut W, set: u64, x: u8, found: Option<u8>) -> io::Res
     Ok(())
 }
 
-// The targets on which u is permitted operation k; no line where there is none.
+// The targets on which u is permitted operation k, each with its place; no line where there is none.
 fn line<W: Write>(out: &mut W, p: Policy, u: u8, k: u8) -> io::Result<()> {
     let set = p.permitted(u, k);
     head_of_some(out, set, b"permitted", u, k)?;
