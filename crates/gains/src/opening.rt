@@ -7,7 +7,7 @@ ghost use Rattle.gains.specs.Lacking.{LacksPermit, Above};
 ghost use Rattle.gains.specs.Searching.{Opens};
 
 use crate::Permission;
-use crate::granting::{covers, granted};
+use crate::granting::granted;
 use crate::searching::first_fresh;
 use reach::{AccessRule, Policy, has};
 
@@ -15,7 +15,7 @@ use reach::{AccessRule, Policy, has};
 fn rule_opens(rule: AccessRule, users: u64, more: u64, opened: u64) -> bool
     ensures { Decides result (Opens rule users more opened) }
 {
-    covers(rule, more) || covers(rule, users) && has(opened, rule.targets)
+    rule.used && (has(more, rule.users) | (has(users, rule.users) & has(opened, rule.targets)))
 }
 
 // Whether some rule does. Where none does no permission comes, and there is no need to search.

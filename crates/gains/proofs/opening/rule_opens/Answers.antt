@@ -1,17 +1,18 @@
 -- Its U is asked of both sets, and its T.
-use mathlib.Core.Logic.{inr, ⊎_elim}
-use Rattle.reach.proofs.Testing.{decides_as, decides_at, refuted}
+use mathlib.Core.Path.{sym, ◌∙◌}
+use mathlib.Core.Bool.{true≢false}
+use Rattle.reach.proofs.Testing.{decides_as, decides_at, decides_and, decides_or, decides_none}
 use Rattle.reach.proofs.WordSets.{has_decides}
 use Rattle.gains.proofs.opening.rule_opens.Goals as goal
 
-pub returns-then-covers-2 : goal.returns-then-covers-2
-returns-then-covers-2 c =
-    let covers = c.covers-else-covers.ensures.sound c.if-covers-2.true in
+pub returns-then-rule : goal.returns-then-rule
+returns-then-rule c =
     decides_as
+    (decides_or _ _
     (decides_at c.has.ensures (has_decides _ _))
-    (λ b. record { used = covers.used; by = inr (covers.in_u, b) })
-    (λ w.
-    ⊎_elim
-    (λ b. absurd (refuted c.covers.ensures c.if-covers.false (record { used = w.used; in_u = b })))
-    (λ b. b.1)
-    w.by)
+    (decides_and _ _ (decides_at c.has-then-rule.ensures (has_decides _ _)) (decides_at c.has-then-rule-2.ensures (has_decides _ _))))
+    (λ w. record { used = c.if-rule.true; by = w })
+    (λ w. w.by)
+
+pub returns-else-rule : goal.returns-else-rule
+returns-else-rule c = rw c.if-rule.false (decides_none (λ w. true≢false (sym w.used)))
