@@ -13,17 +13,17 @@ loop-h-init c = rw c.into_iter-h-iterator.ensures.into_iter_gives (pick_start (s
 pub returns-then-is_user : goal.returns-then-is_user
 returns-then-is_user c =
     let o = c.in-Some.ensures.steps in
-    let user = decides_at c.is_user.ensures (decides_number _ _ 2 (omega arith)) in
-    decides_some_at _ o.low (c.loop-h.invariant.within _ o.in_set, user.sound c.if-is_user.true)
+    let found = decides_at c.is_user.ensures (decides_number _ _ 2 (omega arith)) in
+    decides_some_at _ o.low (c.loop-h.invariant.within _ o.in_set, found.sound c.if-is_user.true)
 
 pub loop-h-preserved : goal.loop-h-preserved
 loop-h-preserved c =
     let l = c.loop-h in
     let o = c.in-Some.ensures.steps in
-    let user = decides_at c.is_user.ensures (decides_number _ _ 2 (omega arith)) in
+    let passed = decides_at c.is_user.ensures (decides_number _ _ 2 (omega arith)) in
     rw
     (without_lowest l.invariant.left_word o)
-    (pick_step false l.invariant _ o.in_set (decides_none (refuted user c.if-is_user.false))
+    (pick_step false l.invariant _ o.in_set (decides_none (refuted passed c.if-is_user.false))
     (set_none (λ x w. false≢true w.0)))
 
 pub returns : goal.returns

@@ -1,5 +1,5 @@
 -- Its U is asked of both sets, and its T.
-use mathlib.Core.Path.{sym, ◌∙◌}
+use mathlib.Core.Path.{sym}
 use mathlib.Core.Bool.{true≢false}
 use Rattle.reach.proofs.Testing.{decides_as, decides_at, decides_and, decides_or, decides_none}
 use Rattle.reach.proofs.WordSets.{has_decides}
