@@ -17,7 +17,7 @@ use Rattle.reach.specs.declared.Post.{Post}
 use Rattle.reach.specs.declared.Post.TheVariants.{Owner, Manager, Administrator}
 use Rattle.reach.specs.Tests.{◌⇒◌∥◌, Decides}
 use Rattle.reach.specs.Tables.{counted, sort_number, post_number, sort_in, sort, view}
-use Rattle.reach.specs.Reach.{InUse, Group, User, Target}
+use Rattle.reach.specs.Reach.{InUse, Group, User, Target, in_use, is_group, is_user, is_target}
 use Rattle.reach.specs.Words.{SetOf}
 use Rattle.reach.proofs.Lists.{get_d_past}
 use Rattle.reach.proofs.Chains.{in_use_below}
@@ -67,6 +67,23 @@ sort_in_is l x e =
 pub sort_is : (p : Policy) (x : ℕ) → sort_in p.sorts x ≡ sort p x
 unfolding sort
 sort_is p x = refl
+
+-- And so are the tests of an object: whether it is in use, and of which sort.
+pub in_use_is : (p : Policy) (x : ℕ) → in_use p x ≡ ltb 0 (sort_in p.sorts x)
+unfolding in_use sort
+in_use_is p x = refl
+
+pub is_group_is : (p : Policy) (x : ℕ) → is_group p x ≡ eqb (sort_in p.sorts x) 1
+unfolding sort
+is_group_is p x = refl
+
+pub is_user_is : (p : Policy) (x : ℕ) → is_user p x ≡ eqb (sort_in p.sorts x) 2
+unfolding sort
+is_user_is p x = refl
+
+pub is_target_is : (p : Policy) (x : ℕ) → is_target p x ≡ eqb (sort_in p.sorts x) 3
+unfolding sort
+is_target_is p x = refl
 
 pub sort_at : (p : Policy) (x : ℕ) → x < 64 → sort p x ≡ counted (get_or p.sorts x 0)
 unfolding sort
