@@ -52,7 +52,13 @@ impl Policy {
     pub fn above(self, x: u8) -> u64
         ensures { SetOf result (λ g. Under (view self) x g) }
     {
-        self.objects().above(x)
+        let sorts = self.sorts;
+        let memberships = self.memberships;
+        let objects = Objects {
+            sorts: &sorts,
+            memberships: &memberships,
+        };
+        objects.above(x)
     }
 
     // Whether x is under g.

@@ -1,6 +1,6 @@
 // A policy answers its questions itself: what a user owns, manages and administers, and what he is permitted. What is asked of a named
-// object climbs from it; what is asked of every object at once goes by rounds over the rows. The three that the judge asks take the tables that
-// they need by `let`: to lend what is in a policy held by value copies all of it.
+// object climbs from it; what is asked of every object at once goes by rounds over the rows. Each takes the tables that it needs by `let`: to
+// lend what is in a policy held by value copies all of it.
 ghost use Rattle.std.specs.Prelude.{◌≡◌};
 ghost use Rattle.reach.specs.Words.{SetOf};
 ghost use Rattle.reach.specs.Tables.{view};
@@ -11,6 +11,7 @@ ghost use Rattle.reach.specs.Asking.{PostsOf, held_of, PlacingOf};
 use crate::appointments::{covers_pair, given_to, posts_of, sides_of};
 use crate::rounds::descend;
 use crate::ruling::{covering, granted_over};
+use crate::surveying::masks_of;
 use crate::{Held, Objects, Over, Placing, Policy, Posts};
 
 impl Policy {
@@ -29,28 +30,70 @@ impl Policy {
     pub fn owned(self, u: u8) -> u64
         ensures { SetOf result (λ x. Owns (view self) u x) }
     {
-        descend(&self.memberships, self.masks(), self.posts(u).owner)
+        let sorts = self.sorts;
+        let memberships = self.memberships;
+        let appointments = self.appointments;
+        let objects = Objects {
+            sorts: &sorts,
+            memberships: &memberships,
+        };
+        if !objects.is_user(u) {
+            return 0;
+        }
+        let posts = posts_of(&appointments, u);
+        descend(&memberships, masks_of(&sorts), posts.owner)
     }
 
     // All that u manages.
     pub fn managed(self, u: u8) -> u64
         ensures { SetOf result (λ x. Manages (view self) u x) }
     {
-        descend(&self.memberships, self.masks(), self.posts(u).manager)
+        let sorts = self.sorts;
+        let memberships = self.memberships;
+        let appointments = self.appointments;
+        let objects = Objects {
+            sorts: &sorts,
+            memberships: &memberships,
+        };
+        if !objects.is_user(u) {
+            return 0;
+        }
+        let posts = posts_of(&appointments, u);
+        descend(&memberships, masks_of(&sorts), posts.manager)
     }
 
     // Whether u owns x.
     pub fn owns(self, u: u8, x: u8) -> bool
         ensures { result ≡ owns self u x }
     {
-        self.posts(u).owner & self.above(x) != 0
+        let sorts = self.sorts;
+        let memberships = self.memberships;
+        let appointments = self.appointments;
+        let objects = Objects {
+            sorts: &sorts,
+            memberships: &memberships,
+        };
+        if !objects.is_user(u) {
+            return false;
+        }
+        posts_of(&appointments, u).owner & objects.above(x) != 0
     }
 
     // Whether u manages x.
     pub fn manages(self, u: u8, x: u8) -> bool
         ensures { result ≡ manages self u x }
     {
-        self.posts(u).manager & self.above(x) != 0
+        let sorts = self.sorts;
+        let memberships = self.memberships;
+        let appointments = self.appointments;
+        let objects = Objects {
+            sorts: &sorts,
+            memberships: &memberships,
+        };
+        if !objects.is_user(u) {
+            return false;
+        }
+        posts_of(&appointments, u).manager & objects.above(x) != 0
     }
 
     // What u holds over x and over y, what he administers of the two, and whether x is directly in y: what is asked of a request that
@@ -108,36 +151,57 @@ impl Policy {
     pub fn administered(self, u: u8, a: u8) -> u64
         ensures { SetOf result (λ b. Administers (view self) u a b) }
     {
-        if !self.is_user(u) {
+        let sorts = self.sorts;
+        let memberships = self.memberships;
+        let appointments = self.appointments;
+        let objects = Objects {
+            sorts: &sorts,
+            memberships: &memberships,
+        };
+        if !objects.is_user(u) {
             return 0;
         }
-        let sides = sides_of(&self.appointments, u, self.above(a));
-        descend(&self.memberships, self.masks(), sides.second)
+        let sides = sides_of(&appointments, u, objects.above(a));
+        descend(&memberships, masks_of(&sorts), sides.second)
     }
 
     // Whether u administers the pair (a, b).
     pub fn administers(self, u: u8, a: u8, b: u8) -> bool
         ensures { result ≡ administers self u a b }
     {
-        if !self.is_user(u) {
+        let sorts = self.sorts;
+        let memberships = self.memberships;
+        let appointments = self.appointments;
+        let objects = Objects {
+            sorts: &sorts,
+            memberships: &memberships,
+        };
+        if !objects.is_user(u) {
             return false;
         }
-        covers_pair(&self.appointments, u, self.above(a), self.above(b))
+        covers_pair(&appointments, u, objects.above(a), objects.above(b))
     }
 
     // The targets on which u is permitted operation k.
     pub fn permitted(self, u: u8, k: u8) -> u64
         ensures { SetOf result (λ x. Permitted (view self) u k x) }
     {
-        if !self.is_user(u) {
+        let sorts = self.sorts;
+        let memberships = self.memberships;
+        let rules = self.rules;
+        let objects = Objects {
+            sorts: &sorts,
+            memberships: &memberships,
+        };
+        if !objects.is_user(u) {
             return 0;
         }
         if 8 <= k {
             return 0;
         }
-        let m = self.masks();
-        let granted = granted_over(&self.rules, k, self.above(u));
-        descend(&self.memberships, m, granted) & m.targets
+        let m = masks_of(&sorts);
+        let granted = granted_over(&rules, k, objects.above(u));
+        descend(&memberships, m, granted) & m.targets
     }
 
     // The lowest place of a rule by which u is permitted operation k on x, or none.
@@ -161,6 +225,13 @@ impl Policy {
     pub fn orphaned(self) -> bool
         ensures { result ≡ orphaned self }
     {
-        self.objects().ownerless(&self.appointments)
+        let sorts = self.sorts;
+        let memberships = self.memberships;
+        let appointments = self.appointments;
+        let objects = Objects {
+            sorts: &sorts,
+            memberships: &memberships,
+        };
+        objects.ownerless(&appointments)
     }
 }

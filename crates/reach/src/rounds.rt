@@ -44,7 +44,8 @@ impl Policy {
     pub fn under_set(self, g: u8) -> u64
         ensures { SetOf result (λ x. Under (view self) x g) }
     {
-        let m = self.masks();
-        descend(&self.memberships, m, just(g))
+        let sorts = self.sorts;
+        let memberships = self.memberships;
+        descend(&memberships, masks_of(&sorts), just(g))
     }
 }

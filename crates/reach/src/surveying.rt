@@ -60,6 +60,7 @@ impl Policy {
     pub fn masks(self) -> Masks
         ensures { MasksOf self result }
     {
-        masks_of(&self.sorts)
+        let sorts = self.sorts;
+        masks_of(&sorts)
     }
 }

@@ -156,8 +156,8 @@ impl Policy {
         p
     }
 
-    // The sort of object x as it counts; none for an empty object or a number past the table. The sorts are taken by `let`, which copies them
-    // alone: to lend them from a policy held by value copies all of it.
+    // The sort of object x as it counts; none for an empty object or a number past the table. The sorts are taken by `let`, here and below,
+    // which copies them alone: to lend them from a policy held by value copies all of it.
     #[tactic(auto, unfolding(crate::specs::Tables::sort))]
     pub fn sort(self, x: u8) -> Option<Sort>
         ensures { sort_number result ≡ sort self x }
@@ -199,13 +199,20 @@ impl Policy {
     pub fn stored(self, x: u8, g: u8) -> bool
         ensures { result ≡ stored self x g }
     {
-        has(at(&self.memberships, x, 0), g)
+        let memberships = self.memberships;
+        has(at(&memberships, x, 0), g)
     }
 
     // Whether x is directly in the group g, by a membership that counts.
     pub fn direct(self, x: u8, g: u8) -> bool
         ensures { result ≡ direct self x g }
     {
-        self.objects().direct(x, g)
+        let sorts = self.sorts;
+        let memberships = self.memberships;
+        let objects = Objects {
+            sorts: &sorts,
+            memberships: &memberships,
+        };
+        objects.direct(x, g)
     }
 }

@@ -3,4 +3,4 @@ use Rattle.reach.proofs.Meeting.{climbed}
 use Rattle.reach.proofs.Policy.above.Goals as goal
 
 pub returns : goal.returns
-returns c = climbed _ (rw (c.objects.ensures.sorts, c.objects.ensures.memberships) at c.above.ensures)
+returns c = climbed _ c.above.ensures

@@ -1,8 +1,7 @@
 -- `direct` reads the two tables that are lent.
-use Rattle.reach.specs.Tables.{sort, stored}
-use Rattle.reach.specs.Reach.{in_use, direct}
+use mathlib.Core.Path.{◌∙◌}
+use Rattle.reach.proofs.Meeting.{direct_by}
 use Rattle.reach.proofs.Policy.direct.Goals as goal
 
 pub returns : goal.returns
-unfolding direct in_use stored sort
-returns c = rw (c.direct.ensures, c.objects.ensures.sorts, c.objects.ensures.memberships)
+returns c = c.direct.ensures ∙ direct_by _ _ _

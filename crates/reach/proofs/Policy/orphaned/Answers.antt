@@ -4,5 +4,4 @@ use Rattle.reach.proofs.Owning.{orphaned_by_tables}
 use Rattle.reach.proofs.Policy.orphaned.Goals as goal
 
 pub returns : goal.returns
-returns c =
-    rw (c.objects.ensures.sorts, c.objects.ensures.memberships) at c.ownerless.ensures ∙ sym (orphaned_by_tables _)
+returns c = c.ownerless.ensures ∙ sym (orphaned_by_tables _)
