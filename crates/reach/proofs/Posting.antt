@@ -10,7 +10,7 @@ use Rattle.reach.specs.Words.{bit, SetOf}
 use Rattle.reach.specs.Tests.{Some, Decides}
 use Rattle.reach.specs.Tables.{sort_in, no_appointment}
 use Rattle.reach.specs.Privileges.{owner, administrator}
-use Rattle.reach.specs.Asking.{HasA, AppointedOver, HasB, HasFirst, OwnersA}
+use Rattle.reach.specs.Asking.{HasA, AppointedOver, CoversPair, HasB, HasFirst, OwnersA}
 use Rattle.reach.proofs.Testing.{decides_at, decides_eqb}
 use Rattle.reach.proofs.WordSets.{set_as}
 
@@ -65,6 +65,10 @@ second_posted {set = set} t y s d e =
 pub held_posted : {s kind u : ℕ} {w : Appointment} → w.holder ≡ u → SetOf s (λ a. (a < 64) × HasA w kind w.holder a)
     → SetOf s (λ a. (a < 64) × HasA w kind u a)
 held_posted {s} {kind} {u} {w} e h = subst (λ (v : ℕ). SetOf s (λ a. (a < 64) × HasA w kind v a)) e h
+
+pub held_pair : {t : Bool} {u first second : ℕ} {w : Appointment} → w.holder ≡ u → Decides t (CoversPair w w.holder first second)
+    → Decides t (CoversPair w u first second)
+held_pair {t} {u} {first} {second} {w} e d = subst (λ (v : ℕ). Decides t (CoversPair w v first second)) e d
 
 pub held_first : {s set u : ℕ} {w : Appointment} → w.holder ≡ u → SetOf s (λ a. (a < 64) × HasFirst w w.holder set a)
     → SetOf s (λ a. (a < 64) × HasFirst w u set a)

@@ -10,7 +10,9 @@ ghost use Rattle.reach.specs.Asking.{HasA, AppointedOver, PostsIn, CoversPair, H
 use crate::sets::{Members, has, just, mark, only_if};
 use crate::{Appointment, Objects, Post, Posts, Sides};
 
-// The places whose appointment passes the test. There is no branch on a place, since the processor can't guess which of them do.
+// The places whose appointment passes the test. There is no branch on a place, since the processor can't guess which of them do. It stays a
+// function of its own: in its callers, which go through a set of 64 bits, the compiler would work the marks in words of 64, in twice the time.
+#[inline(never)]
 fn places<F: Fn(Appointment) -> bool>(appointments: &[Appointment; 32], test: F) -> u32
     requires { F.IsAlwaysCallable test }
     ensures { (passes : Appointment → Bool) → ((w : Appointment) (t : Bool) → F.post test w t → t ≡ passes w) →
@@ -35,11 +37,32 @@ fn posts_by(w: Appointment) -> Posts
     }
 }
 
-// Whether this is an administrator's appointment of u's with its A in the one set and its B in the other.
+// What u is appointed over, as an owner and as a manager: of the places that are his, the lowest first.
+pub fn posts_of(appointments: &[Appointment; 32], u: u8) -> Posts
+    ensures { PostsIn appointments.now u result }
+{
+    let mut owner = 0;
+    let mut manager = 0;
+    for i in Members(u64::from(places(appointments, |w| w.holder == u))) {
+        let posts = posts_by(appointments[i]);
+        owner |= posts.owner;
+        manager |= posts.manager;
+    }
+    Posts { owner, manager }
+}
+
+// Whether this appointment, if it is an administrator's, has its A in the one set and its B in the other, for its holder.
+fn pair_by(w: Appointment, first: u64, second: u64) -> bool
+    ensures { Decides result (CoversPair w w.holder first second) }
+{
+    (w.kind == Post::Administrator as u8) & has(first, w.a) & has(second, w.b)
+}
+
+// The same for u: another's appointment does not.
 fn covers(w: Appointment, u: u8, first: u64, second: u64) -> bool
     ensures { Decides result (CoversPair w u first second) }
 {
-    w.holder == u && (w.kind == Post::Administrator as u8) & has(first, w.a) & has(second, w.b)
+    w.holder == u && pair_by(w, first, second)
 }
 
 // Whether one of u's appointments covers the pair of sets so.
@@ -69,19 +92,12 @@ pub fn given_to(appointments: &[Appointment; 32], u: u8, first: u64, second: u64
         let posts = posts_by(w);
         owner |= posts.owner;
         manager |= posts.manager;
-        pair |= covers(w, u, first, second);
+        pair |= pair_by(w, first, second);
     }
     Given {
         posts: Posts { owner, manager },
         pair,
     }
-}
-
-// What u is appointed over, as an owner and as a manager.
-pub fn posts_of(appointments: &[Appointment; 32], u: u8) -> Posts
-    ensures { PostsIn appointments.now u result }
-{
-    given_to(appointments, u, 0, 0).posts
 }
 
 // The sides of this appointment whose other side is in the set, if it is an administrator's, for its holder.

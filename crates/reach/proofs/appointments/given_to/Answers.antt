@@ -3,7 +3,7 @@ use lib.ListN.{get_or}
 use Rattle.reach.specs.Tables.{no_appointment}
 use Rattle.reach.proofs.Marking.{places_of, mark_start, mark_low, mark_step, seen_set_start, seen_set_step, seen_set_end}
 use Rattle.reach.proofs.Marking.{seen_test_start, seen_test_step, seen_test_end}
-use Rattle.reach.proofs.Posting.{held_posted, appointed_over}
+use Rattle.reach.proofs.Posting.{held_posted, held_pair, appointed_over}
 use Rattle.std.proofs.Common.{rules}
 use Rattle.reach.proofs.appointments.given_to.Goals as goal
 
@@ -28,7 +28,7 @@ loop-i-preserved c =
       mark_step l.invariant.0 o,
       seen_set_step _ l.invariant.0 o l.invariant.1 (held_posted e c.posts_by-posts.ensures.0),
       seen_set_step _ l.invariant.0 o l.invariant.2 (held_posted e c.posts_by-posts.ensures.1),
-      seen_test_step _ _ _ l.invariant.0 o l.invariant.3 c.covers-pair.ensures,
+      seen_test_step _ _ _ l.invariant.0 o l.invariant.3 (held_pair e c.pair_by-pair.ensures),
     )
 
 pub returns : goal.returns

@@ -13,7 +13,7 @@ use Rattle.reach.proofs.appointments.given_to.Given as goal
 abbrev pub invariant-loop-i : goal.invariant-loop-i
 invariant-loop-i l =
     let left = l.i-iterator.0 in
-    Marked (λ j. (get_or l.appointments j no_appointment).holder ≡ l.u) left
-    × SeenSet (Posted l.appointments owner l.u) left l.owner
-    × SeenSet (Posted l.appointments manager l.u) left l.manager
-    × Decides l.pair (Seen left (λ j. CoversPair (get_or l.appointments j no_appointment) l.u l.first l.second))
+    Marked (λ j. (get_or l.appointments j no_appointment).holder ≡ l.fn.u) left
+    × SeenSet (Posted l.appointments owner l.fn.u) left l.owner
+    × SeenSet (Posted l.appointments manager l.fn.u) left l.manager
+    × Decides l.pair (Seen left (λ j. CoversPair (get_or l.appointments j no_appointment) l.fn.u l.first l.second))
