@@ -1,5 +1,5 @@
 -- What the lent tables and the sender's appointments tell of the policy whose tables they are.
-use mathlib.Core.Path.{◌≡◌, refl}
+use mathlib.Core.Path.{◌≡◌, refl, sym, ◌∙◌}
 use mathlib.Core.Bool.{Bool, not}
 use mathlib.Core.List.{List}
 use Prim.Native.Nat.{ℕ, ◌-◌, ◌^◌}
@@ -10,14 +10,15 @@ use borrow.Author.Tests.{eq-eqb}
 use Rattle.reach.specs.declared.Policy.{Policy}
 use Rattle.reach.specs.Words.{SetOf}
 use Rattle.reach.specs.Tests.{Some, Decides}
-use Rattle.reach.specs.Tables.{sort_in, sort, no_appointment, view}
+use Rattle.reach.specs.Tables.{sort_in, no_appointment, view}
 use Rattle.reach.specs.Reach.{InUse, Group, User, itself}
 use Rattle.reach.specs.Privileges.{Holds, Administers}
 use Rattle.reach.specs.Asking.{UnderBy, HeldOver, CoversPair}
-use Rattle.reach.proofs.Testing.{decides_as, decides_at, decides_not, decides_ltb}
+use Rattle.reach.proofs.Testing.{decides_as, decides_at, decides_not}
 use Rattle.reach.proofs.WordSets.{set_as, set_at, set_bits, set_mask, set_not, set_empty, set_lowest}
 use Rattle.reach.proofs.Reaching.{under_lower, under_upper}
-use Rattle.reach.proofs.Chains.{in_use_below}
+use Rattle.reach.proofs.Sorts.{in_use_is}
+use Rattle.reach.proofs.Chains.{in_use_below, decides_in_use}
 use Rattle.reach.proofs.Deciding.{administers_decides}
 use Rattle.reach.proofs.Meeting.{read_user, read_group, climbed, meet_holds, holds_meet, pair_covered}
 use Rattle.gains.specs.Lacking.{Above, Opened}
@@ -36,8 +37,7 @@ pub group_lent : (p : Policy) (g : ℕ) {sorts : List ℕ} {t : Bool} → sorts 
 group_lent p g e q = decides_at (rw e at q) (read_group p g refl)
 
 pub used_lent : (p : Policy) (x : ℕ) {sorts : List ℕ} {t : Bool} → sorts ≡ p.sorts → t ≡ ltb 0 (sort_in sorts x) → Decides t (InUse (view p) x)
-unfolding sort
-used_lent p x e q = decides_at (rw e at q) (decides_ltb 0 _)
+used_lent p x e q = decides_at (rw e at q ∙ sym (in_use_is p x)) (decides_in_use p x)
 
 -- What is above g and not above x, as a set.
 pub opened_set : (p : Policy) {x g object group : ℕ} → Above p x object → Above p g group

@@ -11,7 +11,7 @@ use Rattle.reach.specs.declared.Policy.{Policy}
 use Rattle.reach.specs.declared.Appointment.{Appointment}
 use Rattle.reach.specs.Words.{bit, SetOf}
 use Rattle.reach.specs.Tests.{Some, Decides}
-use Rattle.reach.specs.Tables.{sort_in, sort, no_appointment, view}
+use Rattle.reach.specs.Tables.{sort_in, no_appointment, view}
 use Rattle.reach.specs.Reach.{User, Under}
 use Rattle.reach.specs.Privileges.{owner, manager, Holds, Owns}
 use Rattle.reach.proofs.Bits.{or_bit, bit_of_or}
@@ -19,6 +19,7 @@ use Rattle.reach.proofs.Testing.{decides_as, some_map}
 use Rattle.reach.proofs.WordSets.{set_bits, set_mask, set_not}
 use Rattle.reach.proofs.AsRead.{appointment_is}
 use Rattle.reach.proofs.Deciding.{user_below}
+use Rattle.reach.proofs.Meeting.{user_of_sort, sort_of_user}
 use Rattle.gains.specs.Lacking.{Above, LacksHeld, SomeLacks, LacksOver, HolderOf}
 
 -- All who hold an appointment of that kind whose A is in the set.
@@ -90,17 +91,17 @@ module _ (p : Policy) {x g object group a b c d : ℕ}
   -- Some one of the set is a user, exactly if some user holds the group and not the object.
   pub some_lacks : {set : ℕ} {t : Bool} → Decides t (Some 64 (λ u. (bit set u ≡ 1) × (sort_in p.sorts u ≡ 2)))
       → set ≡ bit_or (bit_and a (2 ^ 64 - 1 - b)) (bit_and c (2 ^ 64 - 1 - d)) → Decides t (SomeLacks (view p) x g)
-  unfolding sort
   some_lacks m f =
       decides_as
       m
       (some_map
       (λ u q.
+      let user = user_of_sort p u q.1 in
       ⊎_elim
-      (λ r. inl (lacks_of p 1 o s h k q.1 r))
-      (λ r. inr (lacks_of p 2 o s i j q.1 r))
+      (λ r. inl (lacks_of p 1 o s h k user r))
+      (λ r. inr (lacks_of p 2 o s i j user r))
       (or_bit _ _ u (ap (λ (n : ℕ). bit n u) (sym f) ∙ q.0))))
-      (some_map (λ u q. (ap (λ (n : ℕ). bit n u) f ∙ some_set (lacks_user q) q, lacks_user q)))
+      (some_map (λ u q. (ap (λ (n : ℕ). bit n u) f ∙ some_set (lacks_user q) q, sort_of_user p u (lacks_user q))))
 
 -- Where u does not own the object, that is all that hand-over asks.
 pub over_decides : (p : Policy) {u x g : ℕ} {t : Bool} → (Owns (view p) u x → ⊥) → Decides t (SomeLacks (view p) x g)

@@ -42,7 +42,7 @@ fn may_appoint(p: &Policy, u: u8, w: Appointment) -> bool
 }
 
 // Checks 8 and 9, after those before, kind by kind: a USE that passes is done, by its rule, and of a PUT checks 10 and 11 are asked here too.
-#[tactic(auto, unfolding(rules::specs::Refusals::already_so, rules::specs::Refusals::no_authority, rules::specs::Authority::may, rules::specs::Authority::may_withdraw, reach::specs::Reach::in_use, reach::specs::Tables::sort, reach::specs::Tables::appointment, reach::specs::Tables::rule, rules::specs::Judging::done))]
+#[tactic(auto, unfolding(rules::specs::Refusals::already_so, rules::specs::Refusals::no_authority, rules::specs::Authority::may, rules::specs::Authority::may_withdraw, rules::specs::Judging::done), using(reach::proofs::Sorts::in_use_is, reach::proofs::AsRead::appointment_is, reach::proofs::AsRead::rule_is))]
 pub fn allowed(p: &Policy, u: u8, q: Request) -> Verdict
     ensures { result ≡ allowed_by p.now u q }
 {

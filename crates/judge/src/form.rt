@@ -88,7 +88,7 @@ pub fn off_the_sheet(q: Request) -> bool
 }
 
 // Check 6.
-#[tactic(auto, unfolding(rules::specs::Refusals::absent, reach::specs::Reach::in_use, reach::specs::Tables::sort, reach::specs::Tables::appointment, reach::specs::Tables::rule))]
+#[tactic(auto, unfolding(rules::specs::Refusals::absent), using(reach::proofs::Sorts::in_use_is, reach::proofs::AsRead::appointment_is, reach::proofs::AsRead::rule_is))]
 pub fn absent(p: &Policy, q: Request) -> bool
     ensures { result ≡ absent p.now q }
 {
@@ -116,7 +116,7 @@ pub fn absent(p: &Policy, q: Request) -> bool
 }
 
 // Check 7.
-#[tactic(auto, unfolding(rules::specs::Refusals::wrong_sort, reach::specs::Tables::sort))]
+#[tactic(auto, unfolding(rules::specs::Refusals::wrong_sort), using(reach::proofs::Sorts::sort_is))]
 pub fn wrong_sort(p: &Policy, q: Request) -> bool
     ensures { result ≡ wrong_sort p.now q }
 {
