@@ -1,6 +1,6 @@
 -- What the rules say of two kinds: of an APPOINT checks 10 to 12, and of a USE check 9 with what it cites. By the definitions of the checks.
 use mathlib.Core.Path.{◌≡◌, refl, sym, ap, ◌∙◌}
-use mathlib.Core.Bool.{Bool, false}
+use mathlib.Core.Bool.{Bool, false, true≢false}
 use Prim.Native.Nat.{ℕ}
 use Rattle.std.specs.Prelude.{Some, None, Ok, Err}
 use Rattle.reach.specs.declared.Policy.{Policy}
@@ -8,12 +8,14 @@ use Rattle.reach.specs.Tests.{◌⇒◌∥◌}
 use Rattle.reach.specs.Tables.{Sized}
 use Rattle.reach.specs.Privileges.{permitting}
 use Rattle.reach.proofs.Deciding.{permitted_at, permitted_nothing}
-use Rattle.rules.specs.declared.Request.TheVariants.{Appoint, Use}
+use Rattle.rules.specs.declared.Request.{Request}
+use Rattle.rules.specs.declared.Request.TheVariants.{Make, Put, Take, Appoint, Dismiss, Grant, Withdraw, Use}
 use Rattle.rules.specs.declared.Refusal.TheVariants.{NoAuthority, OwnGain}
 use Rattle.rules.specs.Authority.{may}
 use Rattle.rules.specs.Refusals.{no_authority, own_gain, hand_over, orphan}
 use Rattle.rules.specs.Judging.{checked, done}
 use Rattle.gains.proofs.Outright.{appoint_other}
+use Rattle.judge.specs.Kind.{is_use}
 use Rattle.judge.specs.Answering.{harmless_by}
 
 module _ (p : Policy) (u : ℕ) where
@@ -36,3 +38,15 @@ module _ (p : Policy) (u : ℕ) where
   pub used_by_none : (x k : ℕ) → None ≡ permitting p u k x → Err NoAuthority ≡ (no_authority p u (Use x k) ⇒ Err NoAuthority ∥ done p u (Use x k))
   unfolding no_authority may done
   used_by_none x k e = rw (permitted_nothing p u k x (sym e))
+
+  -- What is no USE is done by no rule.
+  pub done_by_none : (q : Request) → is_use q ≡ false → done p u q ≡ Ok None
+  unfolding done
+  done_by_none (Make i s g) e = refl
+  done_by_none (Put x g) e = refl
+  done_by_none (Take x g) e = refl
+  done_by_none (Appoint i k h a b) e = refl
+  done_by_none (Dismiss i) e = refl
+  done_by_none (Grant i v t o) e = refl
+  done_by_none (Withdraw i) e = refl
+  done_by_none (Use x k) e = absurd (true≢false e)

@@ -2,13 +2,14 @@
 use mathlib.Core.Path.{◌≡◌, refl, sym, ap, ◌∙◌}
 use mathlib.Core.Bool.{Bool, true, false}
 use mathlib.Core.List.{List, [], ◌∷◌}
-use Prim.Native.Nat.{ℕ}
+use Prim.Native.Nat.{ℕ, ◌<◌}
 use borrow.Author.Tests.{ne_eqb}
 use Rattle.std.specs.Prelude.{Option, Some, None, Result, Ok, Err}
 use Rattle.std.proofs.Common.{rules}
 use Rattle.reach.specs.declared.Policy.{Policy}
 use Rattle.reach.specs.Tests.{◌⇒◌∥◌}
 use Rattle.reach.specs.Privileges.{permitting}
+use Rattle.reach.proofs.Deciding.{user_below}
 use Rattle.rules.specs.declared.Request.{Request}
 use Rattle.rules.specs.declared.Request.TheVariants.{Make, Put, Take, Appoint, Dismiss, Grant, Withdraw, Use}
 use Rattle.rules.specs.declared.Refusal.{Refusal}
@@ -19,6 +20,7 @@ use Rattle.rules.specs.Doing.{after}
 use Rattle.rules.specs.Refusals.{torn, unknown, misfit, stranger, off_the_sheet, absent, wrong_sort, already_so, no_authority, own_gain}
 use Rattle.rules.specs.Refusals.{hand_over, orphan}
 use Rattle.rules.specs.Judging.{Verdict, code_of, cited_of, done, verdict_on, verdict, judge}
+use Rattle.rules.proofs.Fitting.{known_sender}
 use Rattle.judge.specs.declared.Decision.{Decision}
 use Rattle.judge.specs.Kind.{is_put}
 use Rattle.judge.specs.Answering.{passing, answer_by, decided, formed_by, passed_by, allowed_by, harmless_by, staged}
@@ -143,6 +145,21 @@ module _ (p : Policy) (b : List ℕ) (u : ℕ) (q : Request) where
 
       pub passes_all : {y : Unit {0}} → Ok y ≡ harmless_by p u q → Ok by ≡ verdict_on p b u q
       passes_all g = rw (← in_order, ← e, ← f, ← g)
+
+  -- The sender of what is well formed is no stranger, and so his number is on the table.
+  formed_known : {x : Unit {0}} → Ok x ≡ formed_by p b u q → stranger p u ≡ false
+  formed_known e = go (torn b) (unknown b) (misfit b) (stranger p u) _ (sym e)
+    where
+      go : (s t m k : Bool) (r : Result (Unit {0}) Refusal) {x : Unit {0}}
+          → (s ⇒ Err Torn ∥ t ⇒ Err Unknown ∥ m ⇒ Err Misfit ∥ k ⇒ Err Stranger ∥ r) ≡ Ok x → k ≡ false
+      go true t m k r f = search rules
+      go false true m k r f = search rules
+      go false false true k r f = search rules
+      go false false false true r f = search rules
+      go false false false false r f = refl
+
+  pub formed_below : {x : Unit {0}} → Ok x ≡ formed_by p b u q → u < 64
+  formed_below e = user_below p u ((known_sender p u).sound (formed_known e))
 
 -- The same of a record that is read: its stages give the verdict of the rules.
 pub stages : (p : Policy) (b : List ℕ) → staged p b (sender b) (request b) ≡ verdict p b

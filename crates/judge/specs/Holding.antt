@@ -1,6 +1,6 @@
 -- Checks 8 and 9 as they are looked at: by what stands at the place that a request names, and what its sender holds over two objects. Those
 -- of a PUT and of a USE are asked elsewhere.
-use Rattle.std.specs.Prelude.{Bool, false, not, ◌&&◌, ◌||◌, ℕ, eqb}
+use Rattle.std.specs.Prelude.{Bool, false, not, ◌&&◌, ◌||◌, ℕ, eqb, None, Ok, Err}
 use Rattle.reach.specs.declared.Policy.{Policy}
 use Rattle.reach.specs.declared.Over.{Over}
 use Rattle.reach.specs.declared.Held.{Held}
@@ -8,8 +8,11 @@ use Rattle.reach.specs.Tests.{◌⇒◌∥◌}
 use Rattle.reach.specs.Tables.{appointment, standing, rule}
 use Rattle.reach.specs.Reach.{in_use}
 use Rattle.reach.specs.Privileges.{administrator}
+use Rattle.reach.specs.Asking.{held_of}
 use Rattle.rules.specs.declared.Request.{Request}
 use Rattle.rules.specs.declared.Request.TheVariants.{Make, Put, Take, Appoint, Dismiss, Grant, Withdraw, Use}
+use Rattle.rules.specs.declared.Refusal.TheVariants.{AlreadySo, NoAuthority}
+use Rattle.rules.specs.Judging.{Verdict}
 
 -- The two objects that a request is about; 255 is the number of none. DISMISS and WITHDRAW go by the numbers that the place holds.
 abbrev pub first_of : Policy → Request → ℕ
@@ -64,3 +67,8 @@ unentitled p h (Dismiss i) = not (appoints h (appointment p i).kind)
 unentitled p h (Grant i u t o) = not h.pair
 unentitled p h (Withdraw i) = not (h.pair || h.second.owned)
 unentitled p h (Use x k) = false
+
+-- What the two checks come to, by what is held over the two objects: what passes them is done, and no rule is cited.
+unfoldable pub looked_at : Policy → ℕ → Request → Verdict
+looked_at p u q =
+    let h = held_of p u (first_of p q) (second_of p q) in so_already p h q ⇒ Err AlreadySo ∥ unentitled p h q ⇒ Err NoAuthority ∥ Ok None

@@ -1,9 +1,11 @@
 // Checks 8 and 9, by what stands at the place that a request names, and by what the sender holds over two objects: that is asked of the
 // policy at once.
-ghost use Rattle.std.specs.Prelude.{◌≡◌, ◌||◌};
+ghost use Rattle.std.specs.Prelude.{◌≡◌, ◌||◌, false};
 ghost use Rattle.rules.specs.Authority.{may_appoint};
 ghost use Rattle.reach.specs.Asking.{held_of};
+ghost use Rattle.judge.specs.Kind.{is_use, is_put};
 ghost use Rattle.judge.specs.Answering.{allowed_by};
+ghost use Rattle.judge.specs.Holding.{governs, looked_at};
 
 use crate::using::used;
 use gains::put_verdict;
@@ -23,13 +25,12 @@ fn held(p: &Policy, u: u8, x: u8, y: u8) -> Held
 
 // Owns or manages.
 fn governs(over: Over) -> bool
-    ensures { result ≡ (over.owned || over.managed) }
+    ensures { result ≡ governs over }
 {
     over.owned | over.managed
 }
 
 // Whether u may make this appointment, and undo it: he owns A, or of an administrator's manages both A and B.
-#[tactic(auto, unfolding(rules::specs::Authority::may_appoint))]
 fn may_appoint(p: &Policy, u: u8, w: Appointment) -> bool
     ensures { result ≡ may_appoint p.now u w }
 {
@@ -42,9 +43,10 @@ fn may_appoint(p: &Policy, u: u8, w: Appointment) -> bool
 }
 
 // Checks 8 and 9, after those before, kind by kind: a USE that passes is done, by its rule, and of a PUT checks 10 and 11 are asked here too.
-#[tactic(auto, unfolding(rules::specs::Refusals::already_so, rules::specs::Refusals::no_authority, rules::specs::Authority::may, rules::specs::Authority::may_withdraw, rules::specs::Judging::done), using(reach::proofs::Sorts::in_use_is, reach::proofs::AsRead::appointment_is, reach::proofs::AsRead::rule_is))]
+#[tactic(auto, unfolding(rules::specs::Refusals::already_so))]
 pub fn allowed(p: &Policy, u: u8, q: Request) -> Verdict
-    ensures { result ≡ allowed_by p.now u q }
+    ensures value { result ≡ allowed_by p.now u q }
+    ensures looked_at { is_use q ≡ false → is_put q ≡ false → result ≡ looked_at p.now u q }
 {
     match q {
         Request::Make { place, group, .. } => {

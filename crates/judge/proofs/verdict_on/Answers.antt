@@ -12,15 +12,15 @@ returns-in_err-formed c =
 pub returns-in_err-by : goal.returns-in_err-by
 returns-in_err-by c =
     handed_on _ c.from_residual-in_err-by.ensures.1
-    ∙ stops_allowed _ _ _ _ c.in_ok-formed.ensures c.in_err-by.ensures
+    ∙ stops_allowed _ _ _ _ c.in_ok-formed.ensures c.in_err-by.ensures.value
 
 pub returns-in_err-harmless : goal.returns-in_err-harmless
 returns-in_err-harmless c =
     handed_on _ c.from_residual-in_err-harmless.ensures.1
-    ∙ stops_harmless _ _ _ _ c.in_ok-formed.ensures c.in_ok-by.ensures
+    ∙ stops_harmless _ _ _ _ c.in_ok-formed.ensures c.in_ok-by.ensures.value
     c.in_err-harmless.ensures
 
 pub returns : goal.returns
 returns c =
-    passes_all _ _ _ _ c.in_ok-formed.ensures c.in_ok-by.ensures
+    passes_all _ _ _ _ c.in_ok-formed.ensures c.in_ok-by.ensures.value
     c.in_ok-harmless.ensures
