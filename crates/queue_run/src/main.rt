@@ -33,7 +33,7 @@ fn report(input: &[u8], out: &mut [u8]) -> usize
     for (index, record) in Reader::new(input, 0).enumerate() {
         match record {
             Ok(bytes) => {
-                let told = taken_in(club, bytes);
+                let told = taken_in(&club, bytes);
                 put_told(&mut page, index, told);
                 club = told.club;
             }
