@@ -24,7 +24,7 @@ impl fmt::Display for Torn {
 impl Error for Torn {}
 
 // Lent bytes and a position in them. It gives record after record, and a torn place once, as the last.
-#[derive(Clone, Drop)]
+#[derive(Clone, Copy)]
 pub struct Reader<'a> {
     pub bytes: &'a [u8],
     pub at: usize,
