@@ -93,13 +93,27 @@ found b (Record start len next) = Some (Ok (record_bytes b start len))
 found b Torn = Some (Err (record {}))
 found b End = None
 
--- Where reading goes on: after a record at its next place. A torn place is not left; nor is the end.
+-- The step at a position as what is given there tells it: a record starts at the position, and has as many bytes as are given.
+abbrev pub step_told : ℕ → Option Item → Step
+step_told at (Some (Ok bytes)) = Record at (length bytes) (at + length bytes)
+step_told at (Some (Err m)) = Torn
+step_told at None = End
+
+-- What is given is what stands at the position, and tells the step there.
+pub record Finds (b : List ℕ) (at : ℕ) (given : Option (Result (Bor (List ℕ)) mark.Torn)) : Type 0 where
+  pub gives : option_map item given ≡ found b (step_at b at)
+  pub step : step_told at (option_map item given) ≡ step_at b at
+
+-- Where reading goes on: after a record at its next place. A torn place is not left, and is torn again; nor is the end.
 abbrev pub place_after : ℕ → Step → ℕ
 place_after at (Record start len next) = next
 place_after at Torn = at
 place_after at End = at
 
--- What is still read: from a torn place on nothing.
+abbrev pub reader_after : Reader → Reader
+reader_after r = reader_at r.bytes (place_after r.at (step_at r.bytes.now r.at))
+
+-- What is still read by one that goes on itself: from a torn place on nothing.
 abbrev pub bytes_after : List ℕ → ℕ → Step → List ℕ
 bytes_after b at (Record start len next) = b
 bytes_after b at Torn = take at b

@@ -7,7 +7,7 @@ mod reading;
 ghost use Rattle.std.specs.Prelude.{◌≡◌};
 ghost use Rattle.frame.specs.Fields.{byte, little_endian, length_field, kind_field};
 
-pub use reading::count_steps;
+pub use reading::{count_steps, read_after, read_at};
 use std::error::Error;
 use std::fmt;
 

@@ -1,63 +1,37 @@
--- A step of the reader is its definition: each test of the code is a test of `step_at`, taken of the bytes from the position on.
-use Rattle.std.specs.Prelude.{Some, Ok}
-use mathlib.Core.Path.{◌≡◌, refl, sym, ap, ◌∙◌}
-use mathlib.Core.Bool.{Bool, true, false}
-use mathlib.Core.List.{List}
-use Prim.Native.Nat.{ℕ, ◌+◌, ◌-◌, ◌<◌}
+-- The reader gives what it finds, and goes on by the step that this tells. Up to a torn place there are as many bytes as its position says.
+use Rattle.std.specs.Prelude.{Some, Ok, Err}
+use Rattle.std.proofs.Common.{rules}
+use mathlib.Core.Path.{◌≡◌, refl, sym}
 use native.Mathlib.Omega.{arith}
-use lib.ListN.{length, take, drop, length-drop}
-use lib.Seq.{take_all}
-use borrow.Author.Tests.{lt-leb}
-use Rattle.frame.specs.Fields.{length_field}
-use Rattle.frame.specs.Reading.{Record, Torn, torn, step_at, record_bytes}
-use Rattle.frame.proofs.Steps.{end_step}
-use Rattle.frame.proofs.Giving.{goes, goes_down}
+use lib.Seq.{length-take-le}
+use Rattle.frame.proofs.Steps.{step_torn}
+use Rattle.frame.proofs.Giving.{told, goes_found, goes_found_down}
 use Rattle.frame.proofs.reading.ReaderIterator.next.Goals as goal
 
--- The bytes of b from a position on, as the code has them. t is what `torn` returns of them.
-module _ (b : List ℕ) (at : ℕ) (low : at < length b) where
-  abbrev part : List ℕ
-  part = take (length b - at) (drop at b)
+pub slice_bounds-self-end : goal.slice_bounds-self-end
+slice_bounds-self-end c =
+    let e : c.here-given.result ≡ Some (Err c.in-Some-Err.field-0-0) = search rules in
+    sym (length-take-le _ _ (omega (arith, step_torn _ _ (told c.here-given.ensures e))))
 
-  -- They are what `drop` leaves.
-  from : part ≡ drop at b
-  from =
-      let h : length (drop at b) ≡ length b - at = length-drop at b in
-      take_all (length b - at) (drop at b) (omega arith)
+pub returns-in-Some-Ok-clause-steps : goal.returns-in-Some-Ok-clause-steps
+returns-in-Some-Ok-clause-steps c =
+    let e : c.here-given.result ≡ Some (Ok c.in-Some-Ok.record) = search rules in
+    goes_found _ _ c.here-given.ensures e (omega arith) refl
 
-  tears : {t : Bool} → t ≡ torn part → t ≡ true → step_at b at ≡ Torn
-  unfolding step_at
-  tears e h = simp (lt-leb _ _ low, sym (ap torn from) ∙ sym e ∙ h)
+pub returns-in-Some-Ok-clause-goes : goal.returns-in-Some-Ok-clause-goes
+returns-in-Some-Ok-clause-goes c =
+    let e : c.here-given.result ≡ Some (Ok c.in-Some-Ok.record) = search rules in
+    goes_found_down _ _ c.here-given.ensures e (omega arith) refl refl
 
-  module _ {t : Bool} (e : t ≡ torn part) (h : t ≡ false) {l : ℕ} (f : l ≡ length_field part) where
-    gives : step_at b at ≡ Record at l (at + l)
-    unfolding step_at
-    gives = simp (lt-leb _ _ low, sym (ap torn from) ∙ sym e ∙ h, f, from)
+pub returns-in-Some-Err-clause-steps : goal.returns-in-Some-Err-clause-steps
+returns-in-Some-Err-clause-steps c =
+    let e : c.here-given.result ≡ Some (Err c.in-Some-Err.field-0-0) = search rules in
+    goes_found _ _ c.here-given.ensures e refl refl
 
-    taken : take l part ≡ record_bytes b at l
-    taken = ap (take l) from
+pub returns-in-Some-Err-clause-goes : goal.returns-in-Some-Err-clause-goes
+returns-in-Some-Err-clause-goes c =
+    let e : c.here-given.result ≡ Some (Err c.in-Some-Err.field-0-0) = search rules in
+    goes_found_down _ _ c.here-given.ensures e refl refl refl
 
-pub returns-then-bytes-at-clause-steps : goal.returns-then-bytes-at-clause-steps
-returns-then-bytes-at-clause-steps c = goes _ _ _ _ (end_step _ _ c.if-bytes-at.true) refl refl refl
-
-pub returns-then-torn-clause-steps : goal.returns-then-torn-clause-steps
-returns-then-torn-clause-steps c =
-    goes _ _ _ _ (tears _ _ c.if-bytes-at.false c.torn.ensures c.if-torn.true) refl refl refl
-
-pub returns-then-torn-clause-goes : goal.returns-then-torn-clause-goes
-returns-then-torn-clause-goes c =
-    goes_down _ _ _ _ (tears _ _ c.if-bytes-at.false c.torn.ensures c.if-torn.true) refl refl refl
-
-pub returns-clause-steps : goal.returns-clause-steps
-returns-clause-steps c =
-    let low = c.if-bytes-at.false in
-    let length = c.length_field-length.ensures in
-    goes _ _ _ _ (gives _ _ low c.torn.ensures c.if-torn.false length)
-    (ap (λ (r : List ℕ). Some (Ok r)) (taken _ _ low c.torn.ensures c.if-torn.false length)) refl refl
-
-pub returns-clause-goes : goal.returns-clause-goes
-returns-clause-goes c =
-    let low = c.if-bytes-at.false in
-    let length = c.length_field-length.ensures in
-    goes_down _ _ _ _ (gives _ _ low c.torn.ensures c.if-torn.false length)
-    (ap (λ (r : List ℕ). Some (Ok r)) (taken _ _ low c.torn.ensures c.if-torn.false length)) refl refl
+pub returns-in-None-clause-steps : goal.returns-in-None-clause-steps
+returns-in-None-clause-steps c = goes_found _ _ c.here-given.ensures c.in-None.is (omega arith) refl
