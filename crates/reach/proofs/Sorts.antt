@@ -11,6 +11,8 @@ use lib.Dec.{eqb, leb, ltb}
 use lib.ListN.{length, get_or}
 use borrow.Author.Tests.{eqb-true, eq-eqb, le-leb, leb-true, lt-ltb, le-ltb}
 use Rattle.std.specs.Prelude.{Option, Some, None, is_some}
+use Rattle.std.specs.Option.{option_eq}
+use Rattle.reach.specs.contracts.SortPartialEq.TheImpl.{eq-value}
 use Rattle.reach.specs.declared.Policy.{Policy}
 use Rattle.reach.specs.declared.Sort.{Sort}
 use Rattle.reach.specs.declared.Post.{Post}
@@ -54,6 +56,21 @@ some_post None = refl
 some_post (Some Owner) = refl
 some_post (Some Manager) = refl
 some_post (Some Administrator) = refl
+
+-- An object is of a sort exactly if its sort has that number.
+pub of_sort : (o : Option Sort) (k : Sort) → option_eq eq-value.it o (Some k) ≡ eqb (sort_number o) (sort_number (Some k))
+of_sort None Sort.Group = refl
+of_sort None Sort.User = refl
+of_sort None Sort.Target = refl
+of_sort (Some Sort.Group) Sort.Group = refl
+of_sort (Some Sort.Group) Sort.User = refl
+of_sort (Some Sort.Group) Sort.Target = refl
+of_sort (Some Sort.User) Sort.Group = refl
+of_sort (Some Sort.User) Sort.User = refl
+of_sort (Some Sort.User) Sort.Target = refl
+of_sort (Some Sort.Target) Sort.Group = refl
+of_sort (Some Sort.Target) Sort.User = refl
+of_sort (Some Sort.Target) Sort.Target = refl
 
 -- On a table of 64 bytes the sort is the byte at its place, as it counts; past its end there is none.
 pub sort_in_is : (l : List ℕ) (x : ℕ) → length l ≡ 64 → counted (get_or l x 0) ≡ sort_in l x
