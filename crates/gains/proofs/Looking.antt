@@ -1,20 +1,22 @@
 -- One target and one operation of the search: what the words tell is whether the pair is fresh.
-use mathlib.Core.Path.{◌≡◌, refl}
+use mathlib.Core.Path.{◌≡◌, refl, subst}
 use mathlib.Core.Bool.{true}
 use mathlib.Core.List.{List}
 use mathlib.Core.Logic.{◌⊎◌, inl, inr, ⊎_elim}
-use Prim.Native.Nat.{ℕ}
+use Prim.Native.Nat.{ℕ, ◌<◌}
+use native.Mathlib.Omega.{arith}
 use lib.Bits.{bit_or}
 use lib.ListN.{get_or}
 use Rattle.reach.specs.declared.Policy.{Policy}
 use Rattle.reach.specs.Words.{bit, SetOf, Meet}
 use Rattle.reach.specs.Tests.{Decides}
-use Rattle.reach.specs.Tables.{view}
+use Rattle.reach.specs.Tables.{sort_in, view}
 use Rattle.reach.specs.Reach.{Under}
-use Rattle.reach.specs.Asking.{UnderBy, HeldOver}
+use Rattle.reach.specs.Asking.{reach_of, UnderBy, HeldOver}
 use Rattle.reach.proofs.Testing.{some_map}
+use Rattle.reach.proofs.Chains.{in_use_below}
 use Rattle.reach.proofs.WordSets.{set_as, set_or}
-use Rattle.reach.proofs.Meeting.{meet_holds, holds_meet}
+use Rattle.reach.proofs.Meeting.{target_of_sort, meet_holds, holds_meet}
 use Rattle.gains.specs.Lacking.{Above, Grows, LacksHeld, UnderPut}
 use Rattle.gains.specs.Searching.{Fresh}
 
@@ -27,6 +29,23 @@ module _ {s m had got : List ℕ} {x over y k before after : ℕ} (b : SetOf bef
         f.now,
     λ w. f.lacked (some_map (λ t v. (v.0, b.only t v.1)) w),
   )
+
+  pub at_fresh : sort_in s y ≡ 3 → Meet (get_or got k 0) after × (Meet (get_or had k 0) before → ⊥) → Fresh s m had got x over y k
+  at_fresh e w =
+      record {
+        target = e;
+        now =
+            some_map
+            (λ t v. (v.0, ⊎_elim (λ u. inl (b.only t u)) (λ u. inr (b.only x u.0, u.1)) (a.only t v.1)))
+            w.0;
+        lacked = λ h. w.1 (some_map (λ t v. (v.0, b.all t v.1)) h);
+      }
+
+pub target_below : {s m had got : List ℕ} {x over y k : ℕ} → Fresh s m had got x over y k → y < 64
+target_below {s} {m} {y = y} f = in_use_below (reach_of s m) y (omega (arith, target_of_sort (reach_of s m) y f.target))
+
+pub fresh_move : {s m had got : List ℕ} {x over y z k : ℕ} → z ≡ y → Fresh s m had got x over z k → Fresh s m had got x over y k
+fresh_move {s} {m} {had} {got} {x} {over} {k = k} e f = subst (λ (v : ℕ). Fresh s m had got x over v k) e f
 
 -- A test that passed decides what is so.
 pub decides_found : {P : Type 0} → P → Decides true P

@@ -26,6 +26,30 @@ spread_row which added i {s} h u e =
     (λ x w. ⊎_elim (λ b. inl b) (λ b. inr (d.sound b.0, b.1)) w)
     (λ x w. ⊎_elim (λ b. inl b) (λ b. inr (d.complete b.0, b.1)) w))
 
+-- ---- Rows joined with what comes to them
+
+-- Nothing comes.
+pub joined_none : {n : ℕ} {rows : List ℕ} (Q : ℕ → ℕ → Type 0) → length rows ≡ n → ((j : ℕ) → get_or rows j 0 < 2 ^ 64)
+    → ((i x : ℕ) → Q i x → ⊥) → Joined n rows Q rows
+joined_none Q e w none =
+    record {
+      long = e;
+      row = λ i l. set_as (set_bits _ (w i)) (λ x b. inl b) (λ x s. ⊎_elim (λ b. b) (λ q. absurd (none i x q)) s);
+    }
+
+-- The same, said another way.
+pub joined_as : {n : ℕ} {rows r : List ℕ} {P : ℕ → ℕ → Type 0} (Q : ℕ → ℕ → Type 0) → Joined n rows P r
+    → ((i x : ℕ) → i < n → P i x → Q i x) → ((i x : ℕ) → i < n → Q i x → P i x) → Joined n rows Q r
+joined_as Q s f g =
+    record {
+      long = s.long;
+      row = λ i l.
+          set_as
+          (s.row i l)
+          (λ x w. ⊎_elim (λ b. inl b) (λ q. inr (f i x l q)) w)
+          (λ x w. ⊎_elim (λ b. inl b) (λ q. inr (g i x l q)) w);
+    }
+
 -- A loop over places that joins what each gives: after m places the table has what some place below m gives.
 module _ (n : ℕ) (Q : ℕ → ℕ → ℕ → Type 0) where
   abbrev pub Tabled : ℕ → List ℕ → Type 0

@@ -20,3 +20,8 @@ module _ (p : Policy) (u : ℕ) (q : Request) where
   pub given_over : {r : Result (Unit {0}) Refusal} {t : Bool} → false ≡ own_gain p u q → t ≡ hand_over p u q → r ≡ (t ⇒ Err HandOver ∥ Ok tt) → r ≡ given_by p u q
   given_over e f d =
       d ∙ ap (λ (t : Bool). t ⇒ Err HandOver ∥ Ok tt) f ∙ ap (λ (t : Bool). t ⇒ Err OwnGain ∥ hand_over p u q ⇒ Err HandOver ∥ Ok tt) e
+
+  -- Where nothing is handed over it is what own gain says.
+  pub given_alone : {r : Result (Unit {0}) Refusal} {t : Bool} → false ≡ hand_over p u q → t ≡ own_gain p u q → r ≡ (t ⇒ Err OwnGain ∥ Ok tt) → r ≡ given_by p u q
+  given_alone e f d =
+      d ∙ ap (λ (t : Bool). t ⇒ Err OwnGain ∥ Ok tt) f ∙ ap (λ (t : Bool). own_gain p u q ⇒ Err OwnGain ∥ t ⇒ Err HandOver ∥ Ok tt) e

@@ -42,7 +42,18 @@ code_bounded (Err r) = number_bounded r
 -- A refusal cites 255.
 pub refused_cites : (v : Verdict) → (code_of v ≡ 0 → ⊥) → cited_of v ≡ 255
 refused_cites (Ok by) n = absurd (n refl)
-refused_cites (Err r) n = refl
+refused_cites (Err Torn) n = refl
+refused_cites (Err Unknown) n = refl
+refused_cites (Err Misfit) n = refl
+refused_cites (Err Stranger) n = refl
+refused_cites (Err OffTheSheet) n = refl
+refused_cites (Err Absent) n = refl
+refused_cites (Err WrongSort) n = refl
+refused_cites (Err AlreadySo) n = refl
+refused_cites (Err NoAuthority) n = refl
+refused_cites (Err OwnGain) n = refl
+refused_cites (Err HandOver) n = refl
+refused_cites (Err Orphan) n = refl
 
 -- What an accepted request cites is a place of the table, or 255.
 done_cited_bounded : (p : Policy) (u : ℕ) (q : Request) → cited_of (done p u q) ≤ 255
