@@ -1,12 +1,12 @@
 -- Where the two checks come to an end, kind by kind: each test is what the rules ask, and so both clauses hold.
 use mathlib.Core.Path.{refl, sym, ap, ◌∙◌}
 use Rattle.reach.specs.declared.AccessRule.{AccessRule}
-use Rattle.reach.proofs.Sorts.{in_use_is}
 use Rattle.reach.proofs.AsRead.{appointment_is, rule_is}
 use Rattle.rules.specs.Authority.{may, may_withdraw}
 use Rattle.rules.specs.Refusals.{already_so, no_authority}
 use Rattle.rules.specs.Judging.{done}
 use Rattle.rules.proofs.Checking.{handed_on, passed, applied, refused}
+use Rattle.judge.proofs.Sorting.{used_lent}
 use Rattle.judge.proofs.Entitling.{is_so, not_entitled, is_entitled, put_refused, put_passes}
 use Rattle.judge.proofs.authority.allowed.Goals as goal
 
@@ -15,7 +15,7 @@ unfolding already_so
 returns-in_err-if_so-in-Make c =
     let a =
     is_so _ _ _
-    (rw (c.in-Make.is, c.in_use.ensures, in_use_is _ _, c.objects.ensures.sorts))
+    (rw c.in-Make.is (c.in_use.ensures ∙ used_lent _ (sym c.objects.ensures.sorts) c.in-Make.place))
     (applied _ _ c.in_err-if_so-in-Make.ensures)
     (refused _ _ c.in_err-if_so-in-Make.ensures c.from_residual.ensures.1) in
     record { value = a.0; looked_at = a.1 }
@@ -25,7 +25,7 @@ unfolding already_so no_authority may
 returns-in_err-if_so-in-Make-2 c =
     let a =
     not_entitled _ _ _
-    (rw (c.in-Make.is, c.in_use.ensures, in_use_is _ _, c.objects.ensures.sorts))
+    (rw c.in-Make.is (c.in_use.ensures ∙ used_lent _ (sym c.objects.ensures.sorts) c.in-Make.place))
     (rw (c.in-Make.is, c.governs.ensures, c.held.ensures))
     (passed _ _ c.in_ok-if_so-in-Make.ensures)
     (applied _ _ c.in_err-if_so-in-Make-2.ensures)
@@ -37,7 +37,7 @@ unfolding already_so no_authority may done
 returns-in_ok-if_so-in-Make-2 c =
     let a =
     is_entitled _ _ _
-    (rw (c.in-Make.is, c.in_use.ensures, in_use_is _ _, c.objects.ensures.sorts))
+    (rw c.in-Make.is (c.in_use.ensures ∙ used_lent _ (sym c.objects.ensures.sorts) c.in-Make.place))
     (rw (c.in-Make.is, c.governs.ensures, c.held.ensures))
     (passed _ _ c.in_ok-if_so-in-Make.ensures)
     (passed _ _ c.in_ok-if_so-in-Make-2.ensures)
