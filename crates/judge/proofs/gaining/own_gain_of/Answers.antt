@@ -1,5 +1,6 @@
 -- A record that is refused with 10 is told by what its request gives its sender, and for every other nothing is told.
 use mathlib.Core.Path.{◌≡◌, refl, sym, ap, subst, ◌∙◌}
+use mathlib.Core.Bool.{false, true≢false}
 use mathlib.Core.List.{List}
 use Prim.Native.Nat.{ℕ}
 use native.Mathlib.Omega.{arith}
@@ -37,7 +38,9 @@ module _ (p : Policy) (b : List ℕ) {d : Decision} (e : d ≡ decided p b) wher
       }
 
 pub returns-then-ne : goal.returns-then-ne
-returns-then-ne c = untold _ _ c.decide-decision.ensures (search rules)
+returns-then-ne c =
+    untold _ _ c.decide-decision.ensures
+    (λ e. let same : c.ne.result ≡ false = rw (c.ne.ensures, e) in true≢false (sym c.if-ne.true ∙ same))
 
 pub returns : goal.returns
 returns c = told _ _ c.decide-decision.ensures _ (search rules) c.permission_gained.ensures
