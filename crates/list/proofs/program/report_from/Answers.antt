@@ -27,6 +27,8 @@ loop-index-init c =
       same = refl;
     }
 
+-- The next line is that of what the reader gave, a record or a torn place,
+-- and has the number of its turn.
 pub loop-index-preserved : goal.loop-index-preserved
 loop-index-preserved c =
     let steps = c.in-Some.ensures.steps in

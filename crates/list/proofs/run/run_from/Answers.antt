@@ -12,6 +12,8 @@ returns-then-cited-ends c = too_few_cited _ _ _ _ _ (omega (arith, c.if-cited-en
 pub loop-i-init : goal.loop-i-init
 loop-i-init c = running_start _ _ _ _ _ (omega (arith, c.if-codes-ends.false)) (omega (arith, c.if-cited-ends.false))
 
+-- The next record is judged on what those before it left, and its answer
+-- stands at its place of both buffers.
 pub loop-i-preserved : goal.loop-i-preserved
 loop-i-preserved c =
     let answer = c.answered-code.ensures in
