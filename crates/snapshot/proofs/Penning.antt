@@ -18,7 +18,7 @@ use Rattle.text.specs.Text.{Bytes}
 use Rattle.text.proofs.Paging.{puts_none, puts_then, printed_page}
 use Rattle.list.specs.Filling.{over}
 use Rattle.snapshot.specs.declared.Entry.{Entry}
-use Rattle.snapshot.specs.declared.writing.Pen.{Pen}
+use Rattle.snapshot.specs.declared.writing.Writer.{Writer}
 use Rattle.snapshot.specs.declared.Entry.TheVariants.{Object}
 use Rattle.snapshot.specs.Card.{bytes_of, object_of, appointed_of, granted_of, object_at, membership_at, appointed_at, granted_at, from}
 use Rattle.snapshot.specs.Writing.{Penned, page_of, entry_in, row_of}
@@ -26,10 +26,10 @@ use Rattle.std.specs.List.{slice_get}
 use Rattle.std.proofs.lemmas.Option.{slice_get-get_or}
 use Rattle.snapshot.proofs.Runs.{from_end, from_same, from_more}
 
-pub penned_as : {v w : Bytes} {a b : Pen} → v ≡ w → Penned a v b → Penned a w b
+pub penned_as : {v w : Bytes} {a b : Writer} → v ≡ w → Penned a v b → Penned a w b
 penned_as {a = a} {b} e p = subst (λ (t : Bytes). Penned a t b) e p
 
-pub penned_then : {v w : Bytes} {a b c : Pen} → Penned a v b → Penned b w c → Penned a (v ++ w) c
+pub penned_then : {v w : Bytes} {a b c : Writer} → Penned a v b → Penned b w c → Penned a (v ++ w) c
 penned_then {v} {w} p q =
     record {
       puts = puts_then p.puts q.puts;
@@ -37,14 +37,14 @@ penned_then {v} {w} p q =
     }
 
 -- Nothing is penned where there is nothing.
-pub penned_nothing : {v : Bytes} {pen : Pen} → v ≡ [] → Penned pen v pen
+pub penned_nothing : {v : Bytes} {pen : Writer} → v ≡ [] → Penned pen v pen
 penned_nothing {v} {pen} e = penned_as (sym e) (record { puts = puts_none (page_of pen); count = λ n f. omega (arith, f) })
 
 -- No place yet, and one place more.
-pub penned_start : {pen : Pen} (f : ℕ → Bytes) → Penned pen (from 0 0 f) pen
+pub penned_start : {pen : Writer} (f : ℕ → Bytes) → Penned pen (from 0 0 f) pen
 penned_start f = penned_nothing (from_end 0 f)
 
-pub penned_more : {a b c : Pen} (f : ℕ → Bytes) (k : ℕ) → Penned a (from k 0 f) b → Penned b (f k) c → Penned a (from (k + 1) 0 f) c
+pub penned_more : {a b c : Writer} (f : ℕ → Bytes) (k : ℕ) → Penned a (from k 0 f) b → Penned b (f k) c → Penned a (from (k + 1) 0 f) c
 penned_more f k p q = penned_as (sym (from_more k f)) (penned_then p q)
 
 -- ---- The tables of a policy
@@ -95,7 +95,7 @@ module _ (p : Policy) where
 -- ---- The whole file
 
 -- As much of it as there is room for stands at the start, and the rest is as it was.
-pub bytes_of_penned : {o w : Bytes} {a b : Pen} → a.at ≡ 0 → a.out.now ≡ o → Penned a w b
+pub bytes_of_penned : {o w : Bytes} {a b : Writer} → a.pen.at ≡ 0 → a.out.now ≡ o → Penned a w b
     → b.out.now ≡ take (length o) w ++ drop (length w) o
 bytes_of_penned e f p = (printed_page e f p.puts).bytes
 
@@ -103,5 +103,5 @@ bytes_of_penned e f p = (printed_page e f p.puts).bytes
 pub over_of_bytes : (w o : Bytes) {o' : Bytes} → o' ≡ take (length o) w ++ drop (length w) o → length w ≤ length o → o' ≡ over w o
 over_of_bytes w o e l = e ∙ ap (λ (t : Bytes). t ++ drop (length w) o) (take_all (length o) w l)
 
-pub length_of_penned : {w : Bytes} {a b : Pen} → a.needed ≡ 0 → Penned a w b → length w < 2 ^ 64 → b.needed ≡ length w
+pub length_of_penned : {w : Bytes} {a b : Writer} → a.pen.needed ≡ 0 → Penned a w b → length w < 2 ^ 64 → b.pen.needed ≡ length w
 length_of_penned e p fits = let counted = p.count 0 e in omega (arith, counted, fits)

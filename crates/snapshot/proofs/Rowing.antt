@@ -22,7 +22,7 @@ use Rattle.reach.proofs.OneBit.{has_without, and_is_without}
 use Rattle.reach.proofs.WordSets.{has_decides, below_next}
 use Rattle.text.specs.Text.{Bytes}
 use Rattle.snapshot.specs.declared.Entry.TheVariants.{Membership}
-use Rattle.snapshot.specs.declared.writing.Pen.{Pen}
+use Rattle.snapshot.specs.declared.writing.Writer.{Writer}
 use Rattle.snapshot.specs.Card.{bytes_of, membership_of, from}
 use Rattle.snapshot.specs.Writing.{Penned, row_of}
 use Rattle.snapshot.proofs.Runs.{from_end, from_more, from_append, from_none}
@@ -77,7 +77,7 @@ module _ (groups x : ℕ) where
   abbrev place_bytes : ℕ → Bytes
   place_bytes k = bytes_of (membership_of (has groups k) x k)
 
-  pub record Rowing (pen : Pen) (left : ℕ) (pen' : Pen) : Type 0 where
+  pub record Rowing (pen : Writer) (left : ℕ) (pen' : Writer) : Type 0 where
     pub place : ℕ
     pub within : place ≤ 64
     pub word : left < 2 ^ 64
@@ -85,7 +85,7 @@ module _ (groups x : ℕ) where
     pub none_before : (k : ℕ) → k < place → has left k ≡ false
     pub penned : Penned pen (from place 0 place_bytes) pen'
 
-  pub rowing_start : (pen : Pen) → groups < 2 ^ 64 → Rowing pen groups pen
+  pub rowing_start : (pen : Writer) → groups < 2 ^ 64 → Rowing pen groups pen
   rowing_start pen word =
       record {
         place = 0;
@@ -99,7 +99,7 @@ module _ (groups x : ℕ) where
   gives_nothing : (k : ℕ) → has groups k ≡ false → place_bytes k ≡ []
   gives_nothing k e = rw e
 
-  module _ {pen a : Pen} {left : ℕ} (w : Rowing pen left a) where
+  module _ {pen a : Writer} {left : ℕ} (w : Rowing pen left a) where
     -- Nothing is left: the places from there on give nothing.
     pub rowing_end : left ≡ 0 → Penned pen (row_of groups x) a
     unfolding has
@@ -143,7 +143,7 @@ module _ (groups x : ℕ) where
       here : {y g : ℕ} → y ≡ x → g ≡ low → bytes_of (Some (Membership y g)) ≡ place_bytes low
       here e f = rw (e, f, sym (w.from_there low onward) ∙ lowest_has left some w.word)
 
-      pub rowing_next : {b : Pen} {y g : ℕ} → Penned a (bytes_of (Some (Membership y g))) b → y ≡ x → g ≡ low
+      pub rowing_next : {b : Writer} {y g : ℕ} → Penned a (bytes_of (Some (Membership y g))) b → y ≡ x → g ≡ low
           → Rowing pen (bit_and left (2 ^ 64 - 1 - (1 * 2 ^ low) % 2 ^ 64)) b
       rowing_next q object group =
           record {

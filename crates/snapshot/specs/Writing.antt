@@ -6,21 +6,21 @@ use Rattle.text.specs.Text.{Bytes}
 use Rattle.text.specs.declared.Page.{Page}
 use Rattle.text.specs.Paging.{Puts}
 use Rattle.snapshot.specs.declared.Entry.{Entry}
-use Rattle.snapshot.specs.declared.writing.Pen.{Pen}
+use Rattle.snapshot.specs.declared.writing.Writer.{Writer}
 use Rattle.snapshot.specs.Card.{bytes_of, membership_of, from}
 
 -- The buffer and the place, as a page.
-abbrev pub page_of : Pen → Page
-page_of pen = record { out = pen.out; at = pen.at }
+abbrev pub page_of : Writer → Page
+page_of w = record { out = w.out; at = w.pen.at }
 
--- The pen has counted n bytes. The count stops at the largest number.
-abbrev pub Counts : Pen → ℕ → Type 0
-Counts pen n = pen.needed ≡ min n (2 ^ 64 - 1)
+-- The writer's pen has counted n bytes. The count stops at the largest number.
+abbrev pub Counts : Writer → ℕ → Type 0
+Counts w n = w.pen.needed ≡ min n (2 ^ 64 - 1)
 
--- The text is put on the pen's page, as much of it as there is room for, and counted whole.
-pub record Penned (pen : Pen) (text : Bytes) (pen' : Pen) : Type 0 where
-  pub puts : Puts (page_of pen) text (page_of pen')
-  pub count : (n : ℕ) → Counts pen n → Counts pen' (n + length text)
+-- The text is put on the writer's page, as much of it as there is room for, and counted whole.
+pub record Penned (w : Writer) (text : Bytes) (w' : Writer) : Type 0 where
+  pub puts : Puts (page_of w) text (page_of w')
+  pub count : (n : ℕ) → Counts w n → Counts w' (n + length text)
 
 -- The memberships of x in the groups of a set.
 abbrev pub row_of : ℕ → ℕ → Bytes

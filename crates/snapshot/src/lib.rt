@@ -28,6 +28,14 @@ pub enum CardError {
     Short = 14,
 }
 
+// How far a file is written: the place of the next byte in the buffer, which is its end once there is no more room, and how many bytes it
+// has so far, with room for them or not.
+#[derive(Clone, Copy)]
+pub struct Pen {
+    pub at: usize,
+    pub needed: usize,
+}
+
 // The number of the refusal, or 0 for what is done.
 pub fn card_code<T>(answer: &Result<T, CardError>) -> u8
     ensures { result ≡ code_of answer.now }

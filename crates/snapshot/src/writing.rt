@@ -9,32 +9,30 @@ ghost use Rattle.snapshot.specs.Answers.{Writes};
 ghost use Rattle.snapshot.specs.Writing.{Penned, entry_in, row_of};
 
 use crate::entries::Placed;
-use crate::{CardError, Entry};
+use crate::{CardError, Entry, Pen};
 use reach::Policy;
 use soundness::is_sound;
 use text::Page;
 
-// How far a file is written: the lent buffer with the place of the next byte, and how many bytes the file has so far, with room for them or
-// not. It holds no page, since of a buffer that lies two structs deep the lender isn't told what became of it.
+// The lent buffer, and how far the file is written there. It holds no page, since of a buffer that lies two structs deep the lender isn't told
+// what became of it.
 #[derive(Drop)]
-pub struct Pen<'a> {
+pub struct Writer<'a> {
     pub out: &'a mut [u8],
-    pub at: usize,
-    pub needed: usize,
+    pub pen: Pen,
 }
 
-impl<'a> Pen<'a> {
+impl<'a> Writer<'a> {
     // At the start of the buffer.
-    fn new(out: &'a mut [u8]) -> Pen<'a>
-        ensures place { result.at ≡ 0 }
-        ensures needed { result.needed ≡ 0 }
+    fn new(out: &'a mut [u8]) -> Writer<'a>
+        ensures place { result.pen.at ≡ 0 }
+        ensures needed { result.pen.needed ≡ 0 }
         ensures bytes { result.out.now ≡ out.old }
         ensures same { result.out.ghost_name ≡ out.entry.ghost_name }
     {
-        Pen {
+        Writer {
             out,
-            at: 0,
-            needed: 0,
+            pen: Pen { at: 0, needed: 0 },
         }
     }
 
@@ -45,11 +43,11 @@ impl<'a> Pen<'a> {
         if let Some(e) = e {
             let mut page = Page {
                 out: &mut *self.out,
-                at: self.at,
+                at: self.pen.at,
             };
             put_entry(&mut page, e);
-            self.at = page.at;
-            self.needed = self.needed.saturating_add(e.size());
+            self.pen.at = page.at;
+            self.pen.needed = self.pen.needed.saturating_add(e.size());
         }
     }
 
@@ -112,9 +110,9 @@ fn pen_card(p: &Policy, out: &mut [u8]) -> usize
     ensures bytes { out.new ≡ take (length out.old) (file_of (view p.now)) ++ drop (length (file_of (view p.now))) out.old }
     ensures count { result ≡ length (file_of (view p.now)) }
 {
-    let mut pen = Pen::new(out);
-    pen.card(p);
-    pen.needed
+    let mut writer = Writer::new(out);
+    writer.card(p);
+    writer.pen.needed
 }
 
 // The length of the file.

@@ -1,7 +1,7 @@
 -- The four parts follow each other as in the file.
 use Rattle.snapshot.specs.Card.{in_order}
 use Rattle.snapshot.proofs.Penning.{penned_as, penned_then, objects_are, memberships_are, appointments_are, rules_are}
-use Rattle.snapshot.proofs.writing.Pen.card.Goals as goal
+use Rattle.snapshot.proofs.writing.Writer.card.Goals as goal
 
 pub returns : goal.returns
 unfolding in_order

@@ -1,7 +1,7 @@
 -- What stands at the places below i is penned.
 use Rattle.snapshot.specs.Card.{bytes_of, from}
 use Rattle.snapshot.specs.Writing.{Penned, entry_in}
-use Rattle.snapshot.proofs.writing.Pen.table.Given as goal
+use Rattle.snapshot.proofs.writing.Writer.table.Given as goal
 
 abbrev pub invariant-loop-i : goal.invariant-loop-i
 invariant-loop-i g l =

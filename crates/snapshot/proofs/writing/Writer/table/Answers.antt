@@ -1,7 +1,7 @@
 use Rattle.std.proofs.Common.{arith, sym, ap, ◌∙◌}
 use Rattle.snapshot.specs.Card.{bytes_of}
 use Rattle.snapshot.proofs.Penning.{penned_as, penned_start, penned_more, entry_within}
-use Rattle.snapshot.proofs.writing.Pen.table.Goals as goal
+use Rattle.snapshot.proofs.writing.Writer.table.Goals as goal
 
 pub loop-i-init : goal.loop-i-init
 loop-i-init g c = penned_start _

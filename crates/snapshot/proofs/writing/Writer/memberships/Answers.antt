@@ -1,5 +1,5 @@
 use Rattle.snapshot.proofs.Penning.{penned_start, penned_more}
-use Rattle.snapshot.proofs.writing.Pen.memberships.Goals as goal
+use Rattle.snapshot.proofs.writing.Writer.memberships.Goals as goal
 
 pub loop-x-init : goal.loop-x-init
 loop-x-init c = penned_start _

@@ -2,7 +2,7 @@
 use Rattle.std.proofs.Common.{get_or}
 use Rattle.snapshot.specs.Card.{from}
 use Rattle.snapshot.specs.Writing.{Penned, row_of}
-use Rattle.snapshot.proofs.writing.Pen.memberships.Given as goal
+use Rattle.snapshot.proofs.writing.Writer.memberships.Given as goal
 
 abbrev pub invariant-loop-x : goal.invariant-loop-x
 invariant-loop-x l =

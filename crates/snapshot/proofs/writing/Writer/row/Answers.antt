@@ -2,7 +2,7 @@ use native.Mathlib.Omega.{arith}
 use Rattle.snapshot.proofs.Rowing.{rest_less, lowest_low, rowing_start}
 use Rattle.snapshot.proofs.Rowing.{rowing_next, rowing_end}
 use Rattle.std.proofs.Common.{rules}
-use Rattle.snapshot.proofs.writing.Pen.row.Goals as goal
+use Rattle.snapshot.proofs.writing.Writer.row.Goals as goal
 
 pub loop-left-init : goal.loop-left-init
 loop-left-init c = rowing_start _ _ _ (search rules)
