@@ -9,6 +9,7 @@ use native.Mathlib.Omega.{arith}
 use lib.Dec.{eqb, ltb}
 use Rattle.reach.specs.Tests.{◌⇒◌∥◌}
 use lib.ListN.{length}
+use lib.Seq.{length-take-le}
 use borrow.Author.Tests.{eq-eqb, ne_eqb, eqb-true, eqb-false, ltb-true, ltb-false}
 use Rattle.reach.specs.declared.Policy.{Policy}
 use Rattle.rules.specs.declared.Refusal.{Refusal}
@@ -48,6 +49,9 @@ says_free q e = rw e
 pub says_held : (q : Queue) → is_held q ≡ true → line_of q ≡ held q.holder q.left (waiters q)
 unfolding line_of
 says_held q e = rw e
+
+pub waiters_count : (q : Queue) → length q.waiting ≡ 8 → q.count ≤ 8 → length (waiters q) ≡ q.count
+waiters_count q long few = length-take-le _ _ (omega arith)
 
 -- ---- What the judge says
 
