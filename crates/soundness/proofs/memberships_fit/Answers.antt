@@ -10,6 +10,6 @@ returns c =
     let m = c.args.m in
     decides_numbered (λ x row. RowIn m row x) 64 c.args.memberships.now 0 _ (search rules)
     (cases_from_all c.all.new.self _ _ (λ p. RowIn m p.1 p.0) (λ p. RowIn m p.1 p.0 → ⊥) c.all.ensures.ran
-    (YieldsList-from_zip (YieldsList-from_range 0 64 64 (cc) refl) (YieldsList-from_slice c.args.memberships.now (cc)))
+    (YieldsList-from_zip (YieldsList-from_range 0 _ 64 c.zip.ensures.first refl) (YieldsList-from_slice c.args.memberships.now (cc)))
     (λ x q k. search (rules, holds))
     (λ x q k. search (rules, fails)))
