@@ -1,9 +1,10 @@
-use mathlib.Core.Path.{refl, sym, ◌∙◌}
+use native.Mathlib.Omega.{arith}
+use mathlib.Core.Path.{sym, ◌∙◌}
 use Rattle.reach.proofs.Testing.{none_start, none_next, none_end, lowest_none, lowest_found}
 use Rattle.reach.proofs.ruling.covering.Goals as goal
 
 pub loop-i-init : goal.loop-i-init
-loop-i-init c = none_start _ 0 refl
+loop-i-init c = none_start _ _ (omega arith)
 
 pub returns-then-covered : goal.returns-then-covered
 returns-then-covered c =
