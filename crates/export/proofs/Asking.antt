@@ -1,5 +1,5 @@
 -- What a question on a picture leaves in its buffer: nothing without a picture and room for the answer, and else the bytes of the answer.
-use mathlib.Core.Path.{◌≡◌, subst, ◌∙◌}
+use mathlib.Core.Path.{◌≡◌, refl, subst, ◌∙◌}
 use mathlib.Core.Bool.{true, false}
 use mathlib.Core.List.{◌++◌}
 use Prim.Native.Nat.{ℕ, ◌≤◌, ◌<◌}
@@ -35,21 +35,32 @@ module _ (picture answer buffer : Bytes) where
       let is : eqb (length picture) 960 ≡ true = eq-eqb (length picture) 960 long in
       record { written = rw (is, e) (rw e at written); count = rw (is, e) count }
 
+-- What is asked goes by one number or two. The set with which the policy of the picture answers is told; what it was asked for are the
+-- numbers that the caller gave.
+pub set_told : (asked : ℕ → ℕ → Policy → ℕ → Type 0) (x y x' y' : ℕ) (picture : Bytes) (p : Policy) (w : ℕ) (buffer buffer' : Bytes)
+    (n : ℕ) → x' ≡ x → y' ≡ y → p ≡ policy_of picture → SetOf w (asked x' y' p) → AnswerTold picture (bytes_of 8 w) buffer buffer' n
+    → SetTold picture (asked x y) buffer buffer' n
+set_told asked x y x' y' picture p w buffer buffer' n ex ey e s t =
+    record {
+      set = w;
+      exactly =
+          subst (λ (q : Policy). SetOf w (asked x y q)) e
+          (subst (λ (b : ℕ). SetOf w (asked x b p)) ey (subst (λ (a : ℕ). SetOf w (asked a y' p)) ex s));
+      told = t;
+    }
+
 module _ (asked : Policy → ℕ → Type 0) (picture buffer : Bytes) where
   pub no_set : (s : ℕ) × SetOf s (asked (policy_of picture)) → (length picture ≡ 960 → ⊥) → SetTold picture asked buffer buffer 0
   no_set there other = record { set = there.0; exactly = there.1; told = no_picture picture (bytes_of 8 there.0) buffer other }
 
   -- The set with which the policy of the picture answers, in its eight bytes.
-  pub set_told : {bytes buffer' : Bytes} {n : ℕ} (p : Policy) (w : ℕ) → (length picture ≡ 960) × (p ≡ policy_of picture) → SetOf w (asked p)
+  pub set_answered : {bytes buffer' : Bytes} {n : ℕ} (p : Policy) (w : ℕ) → (length picture ≡ 960) × (p ≡ policy_of picture) → SetOf w (asked p)
       → bytes ≡ to_le_bytes w64 w → buffer' ≡ (leb 8 (length buffer) ⇒ over bytes buffer ∥ buffer)
       → n ≡ (leb 8 (length buffer) ⇒ 8 ∥ 0) → SetTold picture asked buffer buffer' n
-  set_told p w is s e written count =
+  set_answered p w is s e written count =
       let spelt = e ∙ bytes_of_eight w in
-      record {
-        set = w;
-        exactly = subst (λ (q : Policy). SetOf w (asked q)) is.1 s;
-        told = answered picture (bytes_of 8 w) buffer 8 is.0 (bytes_length 8 w) (rw spelt at written) count;
-      }
+      set_told (λ _ _. asked) 0 0 0 0 picture p w buffer _ _ refl refl is.1 s
+      (answered picture (bytes_of 8 w) buffer 8 is.0 (bytes_length 8 w) (rw spelt at written) count)
 
 -- The founding's picture, over the first 960 bytes.
 pub founding : (buffer picture : Bytes) → 960 ≤ length buffer → picture ≡ picture_of initial
